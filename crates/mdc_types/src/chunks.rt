@@ -1,0 +1,85 @@
+ghost use Rattle.std.specs.Prelude.{◌≡◌, ◌<◌, ◌≤◌, ◌-◌, ◌^◌, true, false, length, get_or, slice_set, replicate, IfOk, vec_len};
+ghost use Rattle.dlm_modes.specs.First.{first_such};
+
+use crate::ChunkNo;
+use std::alloc::{AllocError, Global};
+use std::marker::Model;
+
+/// A set of chunks of an array.
+///
+/// Contracts see it as one flag for each chunk of the array.
+#[derive(Drop)]
+pub struct ChunkSet {
+    flags: Vec<bool>,
+}
+
+impl Model for ChunkSet {
+    ghost use Rattle.std.specs.Prelude.{List, Bool, ◌<◌, ◌^◌, vec_len};
+
+    ghost Value = { List Bool };
+
+    ghost view = { λ set. set.flags.items };
+
+    ghost invariant = { λ set. vec_len set.flags < 2 ^ 32 };
+}
+
+impl ChunkSet {
+    /// The empty set, for an array of this many chunks.
+    pub fn new(alloc: Global, chunks: u32) -> Result<ChunkSet, AllocError>
+        ensures { IfOk result (λ set. set ≡ replicate chunks false) }
+    {
+        Ok(ChunkSet {
+            flags: vec![in alloc; false; chunks as usize]?,
+        })
+    }
+
+    /// Puts the chunk in.
+    pub fn add(&mut self, c: ChunkNo)
+        requires { c < length self.old }
+        ensures { self.new ≡ slice_set self.old c true }
+    {
+        self.flags[c as usize] = true;
+    }
+
+    /// Takes the chunk out.
+    pub fn remove(&mut self, c: ChunkNo)
+        requires { c < length self.old }
+        ensures { self.new ≡ slice_set self.old c false }
+    {
+        self.flags[c as usize] = false;
+    }
+
+    /// Whether the chunk is in the set.
+    pub fn has(&self, c: ChunkNo) -> bool
+        requires { c < length self.now }
+        ensures { result ≡ get_or self.now c false }
+    {
+        self.flags[c as usize]
+    }
+
+    /// The least chunk of the set from `c` on.
+    pub fn first_from(&self, c: ChunkNo) -> Option<ChunkNo>
+        ensures { result ≡ first_such (λ k. get_or self.now k false) c (length self.now - c) }
+    {
+        for k in c..self.chunks() {
+            if self.has(k) {
+                return Some(k);
+            }
+        }
+        None
+    }
+
+    /// The number of chunks of the array.
+    pub fn chunks(&self) -> u32
+        ensures { result ≡ length self.now }
+    {
+        self.flags.len() as u32
+    }
+
+    /// Takes all chunks out.
+    pub fn clear(&mut self)
+        ensures { self.new ≡ replicate (length self.old) false }
+    {
+        self.flags.fill(false);
+    }
+}
