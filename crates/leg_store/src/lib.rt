@@ -1,0 +1,2 @@
+//! leg_store
+#![tactic(auto)]

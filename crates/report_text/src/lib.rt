@@ -1,0 +1,2 @@
+//! report_text
+#![tactic(auto)]

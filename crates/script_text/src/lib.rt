@@ -1,0 +1,2 @@
+//! script_text
+#![tactic(auto)]
