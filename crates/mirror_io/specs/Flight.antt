@@ -1,5 +1,5 @@
 -- Writes and reads in flight, in the order in which they were asked, which is that of their numbers.
-use Rattle.std.specs.Prelude.{ℕ, ◌==◌, nat_le, Bool, true, false, not, ◌&&◌, if◌then◌else◌, List, [], ◌∷◌, ◌++◌, Option, Some, None}
+use Rattle.std.specs.Prelude.{ℕ, ◌+◌, ◌<◌, ◌≤◌, ◌==◌, nat_le, Bool, true, false, not, ◌&&◌, if◌then◌else◌, List, [], ◌∷◌, Option, Some, None}
 use Rattle.dlm_modes.specs.First.{first_such}
 use Rattle.mdc_types.specs.Bits.{has_bit, with_bit}
 use Rattle.mdc_types.specs.Ranges.{holds}
@@ -77,3 +77,22 @@ write_from k (w ∷ ws) = if nat_le k w.number then Some w.number else write_fro
 abbrev pub read_from : ℕ → List LiveRead → Option ℕ
 read_from k [] = None
 read_from k (r ∷ rs) = if nat_le k r.number then Some r.number else read_from k rs
+
+-- the same for the write that was found, if there was one
+abbrev pub missing_of : ℕ → Option LiveWrite → Option ℕ
+missing_of targets None = None
+missing_of targets (Some w) = missing_leg (has_bit targets) w
+
+-- the numbers rise, from lo on and below hi
+abbrev pub WritesRise : ℕ → ℕ → List LiveWrite → Type 0
+WritesRise lo hi [] = Unit {0}
+WritesRise lo hi (w ∷ ws) = (lo ≤ w.number) × (w.number < hi) × WritesRise (w.number + 1) hi ws
+
+abbrev pub ReadsRise : ℕ → ℕ → List LiveRead → Type 0
+ReadsRise lo hi [] = Unit {0}
+ReadsRise lo hi (r ∷ rs) = (lo ≤ r.number) × (r.number < hi) × ReadsRise (r.number + 1) hi rs
+
+-- writes and reads stand by number, below the counts
+pub record IsInOrder (writes : List LiveWrite) (reads : List LiveRead) (writes_made reads_made : ℕ) : Type 0 where
+  pub writes_rise : WritesRise 0 writes_made writes
+  pub reads_rise : ReadsRise 0 reads_made reads

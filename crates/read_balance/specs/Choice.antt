@@ -1,5 +1,5 @@
 -- The leg that a read goes to.
-use Rattle.std.specs.Prelude.{ℕ, ◌+◌, ◌-◌, nat_le, Bool, not, ◌&&◌, ◌||◌, if◌then◌else◌, Option}
+use Rattle.std.specs.Prelude.{ℕ, ◌+◌, ◌-◌, nat_le, Bool, not, ◌&&◌, ◌||◌, if◌then◌else◌, Option, Some, None}
 use Rattle.dlm_modes.specs.First.{first_such, each_such}
 
 -- how far apart two sectors are
@@ -20,3 +20,9 @@ least_leg works = first_such works 0 8
 
 abbrev pub chosen_leg : (ℕ → Bool) → (ℕ → ℕ) → ℕ → Bool → Option ℕ
 chosen_leg works head s first_only = if first_only then least_leg works else nearest_leg works head s
+
+-- of the leg found before, if there is one, and leg l the one whose head is nearer, the first where
+-- both are as near
+abbrev pub nearer_leg : (ℕ → ℕ) → ℕ → Option ℕ → ℕ → ℕ
+nearer_leg head s None l = l
+nearer_leg head s (Some k) l = if nat_le (distance s (head k)) (distance s (head l)) then k else l
