@@ -1,5 +1,9 @@
 -- What a table has after a change of it.
-use Rattle.std.proofs.Common.{◌≡◌, ◌≢◌, ℕ, zero, suc, ◌+◌, ◌-◌, ◌<◌, ◌≤◌, List, [], ◌∷◌, ◌++◌, Option, Some, None, length, get_or, set, take, drop, refl, sym, ap, ◌∙◌, arith, is_some, true, IsSome}
+use Rattle.std.proofs.Common.{◌≡◌, ◌≢◌, ℕ, zero, suc, ◌+◌, ◌-◌, ◌<◌, ◌≤◌, List, [], ◌∷◌, ◌++◌, Option, Some, None, length, get_or, set, take, drop, refl, sym, ap, ◌∙◌, arith, is_some, true, IsSome, cond}
+use Rattle.std.proofs.Common.{length-append}
+use Rattle.std.proofs.lemmas.List.Edits.{length-remove}
+use Rattle.slab.proofs.SlabLemmas.{Updates-with_value, ContainsKey-within}
+use Rattle.std.proofs.lemmas.List.Sums.{sum_by-set}
 use Rattle.std.specs.Prelude.{remove}
 use Rattle.slab.specs.Slab.{Slab, get, ContainsKey, with_value, Updates, slab_len}
 use Rattle.mirror_io.specs.Table.{with_first, values_at, HasNot, AreKeys, IsTable}
@@ -119,3 +123,45 @@ module _ {T : Type 0} where
   AreKeys-remove s new (key ∷ keys) zero are lt updates = AreKeys-other s new key None keys updates are.1 are.2
   AreKeys-remove s new (key ∷ keys) (suc i) are lt updates =
       (ap is_some (updates.others key (HasNot-at key keys i are.1 (omega arith))) ∙ are.0, HasNot-remove key keys i are.1, AreKeys-remove s new keys i are.2 (omega arith) updates)
+
+  pub length-table : (s : Slab T) (keys : List ℕ) (xs : List T) → IsTable s keys → values_at s keys ≡ xs → length keys ≡ length xs
+  length-table s keys xs is view = sym (length-values_at s keys is.are_keys) ∙ ap length view
+
+  pub IsTable-push : (s new : Slab T) (key : ℕ) (v : T) (keys later : List ℕ) → IsTable s keys → length keys < 16 → get s key ≡ None → Updates s new key (Some v) → slab_len new ≡ slab_len s + 1 → new.capacity ≡ s.capacity
+      → later ≡ keys ++ key ∷ [] → IsTable new later
+  IsTable-push s new key v keys later is lt none updates len capacity e = rw e record {
+    are_keys = AreKeys-push s new key v keys updates none is.are_keys;
+    all = omega (arith, is.all, length-append keys (key ∷ []));
+    most = omega (arith, length-append keys (key ∷ []));
+    room = omega (arith, is.room);
+  }
+
+  slab_len-with_value : (s : Slab T) (key : ℕ) (v : T) → ContainsKey s key → slab_len (with_value s key v) ≡ slab_len s
+  slab_len-with_value s key v has =
+      let e = sum_by-set (λ (o : Option T). cond {A = ℕ} (is_some o) 1 0) s.slots key (Some v) None (ContainsKey-within s key has) in
+      let one : cond {A = ℕ} (is_some (get s key)) 1 0 ≡ 1 = ap (λ b. cond {A = ℕ} b 1 0) has in
+      omega (arith, e, one)
+
+  -- a write through a reference to the value at a place
+  pub IsTable-change : (s : Slab T) (keys : List ℕ) (i : ℕ) (v : T) → IsTable s keys → i < length keys → IsTable (with_value s (get_or keys i 0) v) keys
+  IsTable-change s keys i v is lt =
+      let key : ℕ = get_or keys i 0 in
+      let has : ContainsKey s key = key_at s keys i is.are_keys lt in
+      record {
+        are_keys = AreKeys-change s (with_value s key v) keys i v is.are_keys lt (Updates-with_value s key v has);
+        all = slab_len-with_value s key v has ∙ is.all;
+        most = is.most;
+        room = is.room;
+      }
+
+  pub values_at-with_value : (s : Slab T) (keys : List ℕ) (i : ℕ) (v : T) → IsTable s keys → i < length keys → values_at (with_value s (get_or keys i 0) v) keys ≡ set (values_at s keys) i v
+  values_at-with_value s keys i v is lt = values_at-change s _ keys i v is.are_keys lt (Updates-with_value s (get_or keys i 0) v (key_at s keys i is.are_keys lt))
+
+  pub IsTable-remove : (s new : Slab T) (keys later : List ℕ) (i : ℕ) → IsTable s keys → i < length keys → Updates s new (get_or keys i 0) None → slab_len new + 1 ≡ slab_len s → new.capacity ≡ s.capacity
+      → later ≡ remove keys i → IsTable new later
+  IsTable-remove s new keys later i is lt updates len capacity e = rw e record {
+    are_keys = AreKeys-remove s new keys i is.are_keys lt updates;
+    all = omega (arith, is.all, length-remove keys i lt);
+    most = omega (arith, is.most, length-remove keys i lt);
+    room = omega (arith, is.room);
+  }
