@@ -1,8 +1,9 @@
 -- Requests in flight stand by number: what this tells of look-ups and of changes at a place.
-use Rattle.std.proofs.Common.{◌≡◌, ℕ, zero, suc, ◌+◌, ◌<◌, ◌≤◌, ◌==◌, Bool, true, false, List, [], ◌∷◌, ◌++◌, Option, Some, None, length, get_or, set, refl, sym, ap, ◌∙◌, arith, eq-eqb, if◌then◌else◌}
+use Rattle.std.proofs.Common.{◌≡◌, ℕ, zero, suc, ◌+◌, ◌<◌, ◌≤◌, ◌==◌, Bool, true, false, List, [], ◌∷◌, ◌++◌, Option, Some, None, length, get_or, set, IsSome, is_some, refl, sym, ap, ◌∙◌, arith, eq-eqb, if◌then◌else◌}
 use Rattle.std.proofs.lemmas.Bool.{ne_eqb}
 use Rattle.std.specs.List.{HoldsAt}
-use Rattle.std.specs.Prelude.{remove}
+use Rattle.std.proofs.lemmas.Bool.Decides.{nat_tests, eqb_tells}
+use Rattle.std.specs.Prelude.{remove, nat_le}
 use Rattle.mdc_types.specs.Ranges.{holds}
 use Rattle.mirror_io.specs.declared.live.LiveWrite.{LiveWrite}
 use Rattle.mirror_io.specs.declared.live.LiveRead.{LiveRead}
@@ -141,3 +142,90 @@ without_read-at k lo hi (y ∷ rs) zero rise lt number =
 without_read-at k lo hi (y ∷ rs) (suc i) rise lt number =
     let other : (y.number == k) ≡ false = ne_eqb y.number k (λ same. omega (arith, number y, read_in-at_least (y.number + 1) hi rs i y rise.2 (omega arith))) in
     rw other (ap (λ rest. y ∷ rest) (without_read-at k (y.number + 1) hi rs i rise.2 (omega arith) number))
+
+write_in-tail : (k lo hi : ℕ) (w : LiveWrite) (ws : List LiveWrite) → WritesRise lo hi (w ∷ ws) → IsSome (write_in k ws) → write_in k (w ∷ ws) ≡ write_in k ws
+write_in-tail k lo hi w ws rise some = elim (w.number == k) as (λ b. (w.number == k) ≡ b → (if b then Some w else write_in k ws) ≡ write_in k ws) [
+  | true ↦ λ same.
+      let none : write_in k ws ≡ None = write_in-below k (w.number + 1) hi ws rise.2 (grind (arith, nat_tests)) in
+      let no : is_some (write_in k ws) ≡ false = ap is_some none in
+      absurd (cc)
+  | false ↦ λ other. refl
+] refl
+
+read_in-tail : (k lo hi : ℕ) (r : LiveRead) (rs : List LiveRead) → ReadsRise lo hi (r ∷ rs) → IsSome (read_in k rs) → read_in k (r ∷ rs) ≡ read_in k rs
+read_in-tail k lo hi r rs rise some = elim (r.number == k) as (λ b. (r.number == k) ≡ b → (if b then Some r else read_in k rs) ≡ read_in k rs) [
+  | true ↦ λ same.
+      let none : read_in k rs ≡ None = read_in-below k (r.number + 1) hi rs rise.2 (grind (arith, nat_tests)) in
+      let no : is_some (read_in k rs) ≡ false = ap is_some none in
+      absurd (cc)
+  | false ↦ λ other. refl
+] refl
+
+-- the write that was found for a range
+pub record IsFoundWithin (lo hi k : ℕ) (ws : List LiveWrite) : Type 0 where
+  pub write : LiveWrite
+  pub found : write_in k ws ≡ Some write
+  pub within : holds lo hi write.sector ≡ true
+
+pub write_within-some : (lo hi k from to : ℕ) (ws : List LiveWrite) → WritesRise from to ws → write_within lo hi ws ≡ Some k → IsFoundWithin lo hi k ws
+write_within-some lo hi k from to [] rise is = absurd (cc)
+write_within-some lo hi k from to (w ∷ ws) rise is = elim (holds lo hi w.sector) as (λ b. holds lo hi w.sector ≡ b → (if b then Some w.number else write_within lo hi ws) ≡ Some k → IsFoundWithin lo hi k (w ∷ ws)) [
+  | true ↦ λ test is. record { write = w; found = grind arith; within = test }
+  | false ↦ λ test is.
+      let later = write_within-some lo hi k (w.number + 1) to ws rise.2 is in
+      record { write = later.write; found = write_in-tail k from to w ws rise (ap is_some later.found) ∙ later.found; within = later.within }
+] refl is
+
+-- the write of number j is the next from k on
+pub record IsNextWrite (k j : ℕ) (ws : List LiveWrite) : Type 0 where
+  pub from : k ≤ j
+  pub found : IsSome (write_in j ws)
+  pub between : (i : ℕ) → k ≤ i → i < j → write_in i ws ≡ None
+
+pub write_from-some : (k j lo hi : ℕ) (ws : List LiveWrite) → WritesRise lo hi ws → write_from k ws ≡ Some j → IsNextWrite k j ws
+write_from-some k j lo hi [] rise is = absurd (cc)
+write_from-some k j lo hi (w ∷ ws) rise is = elim (nat_le k w.number) as (λ b. nat_le k w.number ≡ b → (if b then Some w.number else write_from k ws) ≡ Some j → IsNextWrite k j (w ∷ ws)) [
+  | true ↦ λ test is.
+      let here : w.number ≡ j = cc in
+      record {
+        from = grind (arith, nat_tests);
+        found = grind arith;
+        between = λ i le lt. write_in-below i w.number hi (w ∷ ws) (omega arith, rise.1, rise.2) (omega arith);
+      }
+  | false ↦ λ test is.
+      let later = write_from-some k j (w.number + 1) hi ws rise.2 is in
+      record {
+        from = later.from;
+        found = ap is_some (write_in-tail j lo hi w ws rise later.found) ∙ later.found;
+        between = λ i le lt.
+            let other : (w.number == i) ≡ false = grind (arith, nat_tests, eqb_tells w.number i) in
+            rw other (later.between i le lt);
+      }
+] refl is
+
+-- the read of number j is the next from k on
+pub record IsNextRead (k j : ℕ) (rs : List LiveRead) : Type 0 where
+  pub from : k ≤ j
+  pub found : IsSome (read_in j rs)
+  pub between : (i : ℕ) → k ≤ i → i < j → read_in i rs ≡ None
+
+pub read_from-some : (k j lo hi : ℕ) (rs : List LiveRead) → ReadsRise lo hi rs → read_from k rs ≡ Some j → IsNextRead k j rs
+read_from-some k j lo hi [] rise is = absurd (cc)
+read_from-some k j lo hi (r ∷ rs) rise is = elim (nat_le k r.number) as (λ b. nat_le k r.number ≡ b → (if b then Some r.number else read_from k rs) ≡ Some j → IsNextRead k j (r ∷ rs)) [
+  | true ↦ λ test is.
+      let here : r.number ≡ j = cc in
+      record {
+        from = grind (arith, nat_tests);
+        found = grind arith;
+        between = λ i le lt. read_in-below i r.number hi (r ∷ rs) (omega arith, rise.1, rise.2) (omega arith);
+      }
+  | false ↦ λ test is.
+      let later = read_from-some k j (r.number + 1) hi rs rise.2 is in
+      record {
+        from = later.from;
+        found = ap is_some (read_in-tail j lo hi r rs rise later.found) ∙ later.found;
+        between = λ i le lt.
+            let other : (r.number == i) ≡ false = grind (arith, nat_tests, eqb_tells r.number i) in
+            rw other (later.between i le lt);
+      }
+] refl is
