@@ -1,9 +1,11 @@
 -- What is found among writes and reads in flight after a change of them.
-use Rattle.std.proofs.Common.{◌≡◌, ℕ, ◌==◌, true, List, [], ◌∷◌, ◌++◌, Option, Some, None, refl, arith, if◌then◌else◌}
+use Rattle.std.proofs.Common.{◌≡◌, ℕ, ◌≤◌, ◌==◌, true, false, List, [], ◌∷◌, ◌++◌, Option, Some, None, refl, arith, if◌then◌else◌}
+use Rattle.std.proofs.lemmas.Bool.Decides.{nat_tests}
+use Rattle.mdc_types.specs.Ranges.{holds}
 use Rattle.mdc_types.proofs.BitsLaws.{has_bit-with_bit}
 use Rattle.mirror_io.specs.declared.live.LiveWrite.{LiveWrite}
 use Rattle.mirror_io.specs.declared.live.LiveRead.{LiveRead}
-use Rattle.mirror_io.specs.Flight.{write_in, read_in, without_write, without_read, start_in, done_in, started, done_on, is_done}
+use Rattle.mirror_io.specs.Flight.{write_in, read_in, without_write, without_read, start_in, done_in, started, done_on, is_done, write_within, write_from, read_from}
 
 abbrev pub started_option : Option LiveWrite → Option LiveWrite
 started_option None = None
@@ -67,3 +69,17 @@ is_done-started w l = refl
 
 pub is_done-done_on : (w : LiveWrite) (l j : ℕ) → is_done (done_on l w) j ≡ (if j == l then true else is_done w j)
 is_done-done_on w l j = has_bit-with_bit w.done l j
+
+-- no write of the range is in flight where none is found
+pub write_within-none : (lo hi k : ℕ) (ws : List LiveWrite) (w : LiveWrite) → write_within lo hi ws ≡ None → write_in k ws ≡ Some w → holds lo hi w.sector ≡ false
+write_within-none lo hi k [] w none found = grind arith
+write_within-none lo hi k (x ∷ ws) w none found = grind (arith, write_within-none lo hi k ws w)
+
+-- none has a number from k on where none is found
+pub write_from-none : (k j : ℕ) (ws : List LiveWrite) → write_from k ws ≡ None → k ≤ j → write_in j ws ≡ None
+write_from-none k j [] none le = refl
+write_from-none k j (w ∷ ws) none le = grind (arith, nat_tests, write_from-none k j ws)
+
+pub read_from-none : (k j : ℕ) (rs : List LiveRead) → read_from k rs ≡ None → k ≤ j → read_in j rs ≡ None
+read_from-none k j [] none le = refl
+read_from-none k j (r ∷ rs) none le = grind (arith, nat_tests, read_from-none k j rs)

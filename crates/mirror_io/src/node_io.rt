@@ -1,4 +1,6 @@
-ghost use Rattle.std.specs.Prelude.{◌≡◌, ◌≤◌, ◌<◌, ◌+◌, ◌-◌, ◌^◌, [], ◌∷◌, ◌++◌, length, nat_lt, is_ok, IsSome, IfOk, OnOk, OnErr};
+ghost use Rattle.std.specs.Prelude.{◌≡◌, ◌≤◌, ◌<◌, ◌+◌, ◌-◌, ◌^◌, [], ◌∷◌, ◌++◌, length, nat_lt, is_ok, not, ◌&&◌, IsSome, IfOk, OnOk, OnErr};
+ghost use Rattle.dlm_modes.specs.First.{first_such};
+ghost use Rattle.mdc_types.specs.Bits.{has_bit};
 ghost use Rattle.std.specs.Option.{option_copied};
 ghost use Rattle.mirror_io.specs.Flight.{no_flight, write_in, read_in, without_write, without_read, new_write, new_read, start_in, done_in, missing_of, write_within, write_from, read_from, WritesRise, ReadsRise};
 

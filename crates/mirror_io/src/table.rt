@@ -27,6 +27,9 @@ impl<T> Model for Table<T> {
 }
 
 impl<T> Table<T> {
+    ghost use Rattle.std.specs.Borrow.{sem};
+    ghost use Rattle.mirror_io.specs.Lends.{lends_at};
+
     /// An empty table, with the memory for 16 values.
     pub fn new(alloc: Global) -> Result<Table<T>, AllocError>
         ensures { IfOk result (λ table. table ≡ []) }
@@ -60,6 +63,15 @@ impl<T> Table<T> {
         ensures { result.now ≡ slice_index_or self.now i result.now }
     {
         &self.values[self.keys[i]]
+    }
+
+    /// The value at this place, for writing.
+    pub fn at_mut(&mut self, i: usize) -> &mut T
+        requires { i < length self.old }
+        ensures* writes_back { sem 𝓛 (lends_at T.row self.entry i result) }
+        ensures value { result.now ≡ slice_index_or self.old i result.now }
+    {
+        &mut self.values[self.keys[i]]
     }
 
     /// Takes the value at this place out.

@@ -1,0 +1,8 @@
+use Rattle.std.proofs.Common.{◌≡◌, ◌<◌, length, get_or, sym, ap, ◌∙◌, rules, arith}
+use Rattle.std.proofs.lemmas.List.{get_or_default}
+use Rattle.mirror_io.specs.Table.{values_at}
+use Rattle.mirror_io.proofs.Tables.{length-table}
+use Rattle.mirror_io.proofs.table.Table.len.Goals as goal
+
+pub returns-clause-len : goal.returns-clause-len
+returns-clause-len g c = c.len.ensures.value ∙ length-table _ _ _ c.self.invariant c.self.view_is
