@@ -83,3 +83,27 @@ impl ChunkSet {
         self.flags.fill(false);
     }
 }
+
+#[cfg(test)]
+mod tests {
+    use super::*;
+    use std::test::Fail;
+
+    #[test]
+    fn least_chunks(rt: HostRuntime) -> Result<(), Fail> {
+        let mut set = ChunkSet::new(rt.alloc(), 10)?;
+        assert_eq!(rt; set.chunks(), 10);
+        assert_eq!(rt; set.first_from(0), None);
+        set.add(3);
+        set.add(9);
+        for (c, least) in [(0, Some(3)), (3, Some(3)), (4, Some(9)), (10, None)] {
+            assert_eq!(rt; set.first_from(c), least, "from {c}");
+        }
+        set.remove(3);
+        assert!(rt; set.has(9) && !set.has(3));
+        assert_eq!(rt; set.first_from(0), Some(9));
+        set.clear();
+        assert_eq!(rt; set.first_from(0), None);
+        Ok(())
+    }
+}

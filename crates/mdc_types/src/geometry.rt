@@ -230,3 +230,92 @@ impl Geometry {
         self.data_offset() + self.room
     }
 }
+
+#[cfg(test)]
+mod tests {
+    use super::*;
+    use std::test::Fail;
+
+    // Legs, sectors, room, chunk and whether the image version is 2; the chunks and pages, or the error.
+    const SIZES: [(u8, u32, u32, u32, bool, Result<(u32, u32), GeomError>); 19] = [
+        (2, 16, 16, 4, false, Ok((4, 1))),
+        (8, 131_072, 131_072, 8, false, Ok((16_384, 5))),
+        (2, 16, 131_072, 8, false, Ok((16_384, 5))),
+        (2, 131_072, 131_072, 4, false, Err(GeomError::Bits)),
+        (2, 131_072, 131_072, 4, true, Ok((32_768, 9))),
+        (2, 131_072, 131_072, 2, true, Err(GeomError::Bits)),
+        (1, 16, 16, 4, false, Err(GeomError::Legs)),
+        (9, 16, 16, 4, false, Err(GeomError::Legs)),
+        (2, 0, 0, 4, false, Err(GeomError::Sectors)),
+        (2, 131_073, 131_073, 8, false, Err(GeomError::Sectors)),
+        (2, 16, 15, 4, false, Err(GeomError::Room)),
+        (2, 16, 131_073, 8, false, Err(GeomError::Room)),
+        (2, 16, 16, 3, false, Err(GeomError::Chunk)),
+        (2, 16, 16, 2048, false, Err(GeomError::Chunk)),
+        // From here on one bound more is met in each line.
+        (1, 131_073, 5, 3, false, Err(GeomError::Legs)),
+        (2, 131_073, 5, 3, false, Err(GeomError::Sectors)),
+        (2, 131_072, 5, 3, false, Err(GeomError::Room)),
+        (2, 131_072, 131_072, 3, false, Err(GeomError::Chunk)),
+        (2, 131_072, 131_072, 1, false, Err(GeomError::Bits)),
+    ];
+
+    fn geometry(
+        legs: u8,
+        sectors: u32,
+        room: u32,
+        chunk: u32,
+        second: bool,
+    ) -> Result<Geometry, GeomError> {
+        if second {
+            Geometry::second(legs, sectors, room, chunk)
+        } else if room == sectors {
+            Geometry::new(legs, sectors, chunk)
+        } else {
+            Geometry::grown(legs, sectors, room, chunk)
+        }
+    }
+
+    #[test]
+    fn bounds(rt: HostRuntime) {
+        for (line, (legs, sectors, room, chunk, second, wanted)) in SIZES.iter().enumerate() {
+            let found = geometry(*legs, *sectors, *room, *chunk, *second);
+            assert_eq!(rt;
+                found.map(|g| (g.chunks(), g.pages())),
+                *wanted,
+                "line {line}"
+            );
+        }
+    }
+
+    #[test]
+    fn places(rt: HostRuntime) -> Result<(), Fail> {
+        let first = Geometry::new(2, 10, 4)?;
+        let second = Geometry::second(2, 10, 12, 4)?;
+        for (c, page) in [(2047, 0), (2048, 1), (6143, 1), (6144, 2)] {
+            assert_eq!(rt; first.page_of(c), page, "chunk {c}");
+        }
+        for (n, p, sector) in [(0, 0, 16), (1, 0, 24), (0, 7, 23), (7, 7, 79)] {
+            assert!(rt; n < first.nodes() && p < first.slot_pages());
+            assert_eq!(rt; first.page_sector(n, p), sector, "page {p} of node {n}");
+        }
+        for (n, p, sector) in [(0, 0, 16), (1, 0, 32), (0, 15, 31), (15, 15, 271)] {
+            assert!(rt; n < second.nodes() && p < second.slot_pages());
+            assert_eq!(rt; second.page_sector(n, p), sector, "page {p} of node {n}");
+        }
+        assert_eq!(rt;
+            (first.version(), first.data_offset(), first.length()),
+            (1, 80, 90)
+        );
+        assert_eq!(rt;
+            (second.version(), second.data_offset(), second.length()),
+            (2, 272, 284)
+        );
+        assert!(rt; 2 < first.chunks() && 2 < second.chunks());
+        assert_eq!(rt; first.chunk_of(9), 2);
+        assert_eq!(rt; first.chunk_range(1), Range { lo: 4, hi: 8 });
+        assert_eq!(rt; first.chunk_range(2), Range { lo: 8, hi: 10 });
+        assert_eq!(rt; second.chunk_range(2), Range { lo: 8, hi: 12 });
+        Ok(())
+    }
+}
