@@ -1,5 +1,5 @@
 -- The state before any event.
-use Rattle.std.specs.Prelude.{◌≡◌, ◌≢◌, ℕ, ◌^◌, ◌<◌, ◌≤◌, ◌+◌, Bool, true, false, is_some, if◌then◌else◌, get_or, List, [], ◌∷◌, ◌++◌, replicate, codes, Contains}
+use Rattle.std.specs.Prelude.{◌≡◌, ℕ, ◌^◌, ◌<◌, ◌≤◌, ◌+◌, ◌-◌, nat_lt, Bool, true, false, not, ◌&&◌, is_some, if◌then◌else◌, get_or, List, [], ◌∷◌, ◌++◌, replicate, codes, Contains}
 use Rattle.dlm_modes.specs.First.{first_such}
 use Rattle.mdc_types.specs.Bits.{has_bit}
 use Rattle.mdc_types.specs.Geometry.{Sizes, IsGeometry, nodes_of, data_offset}
@@ -57,9 +57,28 @@ pub record IsOrigin (o : Origin) : Type 0 where
 abbrev pub zero_sector : Sector
 zero_sector = record { bytes = replicate 512 0 }
 
--- the first legs of the array work, except those that open as spares; a bit a spare
-abbrev pub IsHeader : Origin → Type 0
-IsHeader o = (o.name ≡ codes "array" ++ replicate 27 0) × (o.uuid ≡ replicate 16 0) × (o.events ≡ 1) × (o.pending ≡ 0) × (o.base ≡ replicate o.sizes.room (zero_sector ∷ []))
+-- the role of a leg at the opening of a header: it works unless it opens as a spare, one bit a leg
+abbrev pub header_role : ℕ → ℕ → ℕ → Role
+header_role legs spares l = if nat_lt l legs && not (has_bit spares l) then Working else Spare
+
+abbrev pub header_roles : ℕ → ℕ → Roles
+header_roles legs spares =
+    let role = header_role legs spares in
+    record { legs = role 0 ∷ role 1 ∷ role 2 ∷ role 3 ∷ role 4 ∷ role 5 ∷ role 6 ∷ role 7 ∷ [] }
+
+-- the opening of a header: the first nodes are members, and all data sectors are zero
+abbrev pub header_at : Sizes → ℕ → Bool → ℕ → Origin
+header_at sizes nodes warm spares = record {
+  sizes = sizes;
+  name = codes "array" ++ replicate 27 0;
+  uuid = replicate 16 0;
+  members = 2 ^ nodes - 1;
+  pending = 0;
+  warm = warm;
+  roles = header_roles sizes.legs spares;
+  events = 1;
+  base = replicate sizes.room (zero_sector ∷ []);
+}
 
 -- the state belongs to the opening: each working leg that tells its contents has a value of the opening at each data sector
 pub record Opens (o : Origin) (start : State) : Type 0 where

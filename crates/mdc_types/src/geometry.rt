@@ -1,5 +1,5 @@
 ghost use Rattle.std.specs.Prelude.{◌≡◌, ◌<◌, ◌≤◌, ◌+◌, ◌/◌, true, false, if◌then◌else◌};
-ghost use Rattle.mdc_types.specs.Geometry.{geometry_of, chunk_size_test, chunks_of, pages_of, page_of, chunk_start, chunk_end, nodes_of, data_offset, slot_pages, page_sector, length_of, most_chunks};
+ghost use Rattle.mdc_types.specs.Geometry.{IsGeometry, geometry_of, chunk_size_test, chunks_of, pages_of, page_of, chunk_start, chunk_end, nodes_of, data_offset, slot_pages, page_sector, length_of, most_chunks};
 
 use crate::{ChunkNo, NodeId, PageNo, Range, SectorNo};
 use std::marker::Model;
@@ -126,6 +126,7 @@ impl Geometry {
     pub fn room(&self) -> u32
         ensures value { result ≡ self.now.room }
         ensures range { (1 ≤ result) × (result ≤ 131072) }
+        ensures sound { IsGeometry self.now }
     {
         self.room
     }

@@ -1,0 +1,4 @@
+pub mod Headers
+pub mod LegLaws
+pub mod NodeLaws
+pub mod Openings
