@@ -3,7 +3,7 @@
 //! Reads go to the leg whose head is nearest to the sector, as md's RAID-1 read balancing does.
 #![tactic(auto)]
 
-ghost use Rattle.std.specs.Prelude.{◌≡◌, ◌↔◌, ◌<◌, ◌+◌, IfSome, IsNone, get_or};
+ghost use Rattle.std.specs.Prelude.{◌≡◌, ◌↔◌, ◌<◌, IfSome, IsNone, get_or};
 ghost use Rattle.mdc_types.specs.Bits.{has_bit};
 ghost use Rattle.read_balance.specs.Choice.{chosen_leg, least_leg, nearest_leg, nearer_leg};
 
