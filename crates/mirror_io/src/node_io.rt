@@ -257,3 +257,53 @@ fn first_missing(targets: u8, done: u8) -> Option<LegId>
     }
     None
 }
+
+#[cfg(test)]
+mod tests {
+    use super::*;
+    use std::process::Abort;
+    use std::test::Fail;
+
+    const VALUE: Sector = Sector { bytes: [7; 512] };
+
+    fn ask(rt: &impl Abort, io: &mut NodeIo, s: SectorNo) -> Result<WriteNo, IoEnd> {
+        assert!(rt; io.writes_made() < u32::MAX);
+        io.ask_write(s, &VALUE)
+    }
+
+    fn end(rt: &impl Abort, io: &mut NodeIo, k: WriteNo) {
+        assert!(rt; io.write(k).is_some());
+        io.end_write(k);
+    }
+
+    fn missing(rt: &impl Abort, io: &NodeIo, k: WriteNo, targets: u8) -> Option<LegId> {
+        assert!(rt; io.write(k).is_some());
+        io.missing(k, targets)
+    }
+
+    #[test]
+    fn writes_in_flight(rt: HostRuntime) -> Result<(), Fail> {
+        let mut io = NodeIo::new(rt.alloc())?;
+        for (k, s) in [(0, 5), (1, 9), (2, 7)] {
+            assert_eq!(rt; ask(&rt, &mut io, s), Ok(k));
+        }
+        assert!(rt; io.write(1).is_some());
+        io.out_done(1, 2);
+        assert_eq!(rt; missing(&rt, &io, 1, 0b0100), None);
+        assert_eq!(rt; missing(&rt, &io, 1, 0b1100), Some(3));
+        let between = Range { lo: 6, hi: 10 };
+        assert_eq!(rt; io.drain(between), Some(1));
+        end(&rt, &mut io, 1);
+        assert_eq!(rt; io.drain(between), Some(2));
+        assert_eq!(rt; io.write_from(1), Some(2));
+        end(&rt, &mut io, 0);
+        for k in 3..18 {
+            assert_eq!(rt; ask(&rt, &mut io, 5), Ok(k));
+        }
+        assert_eq!(rt; ask(&rt, &mut io, 5), Err(IoEnd::Full));
+        io.die();
+        assert_eq!(rt; io.write_from(0), None);
+        assert_eq!(rt; ask(&rt, &mut io, 5), Ok(18));
+        Ok(())
+    }
+}

@@ -1,5 +1,5 @@
 // Where a request stands among those in flight.
-ghost use Rattle.std.specs.Prelude.{◌≡◌, ◌<◌, None, MatchOption, length, slice_index_or};
+ghost use Rattle.std.specs.Prelude.{◌≡◌, None, MatchOption};
 ghost use Rattle.mirror_io.specs.Flight.{write_in, read_in, write_within, write_from, read_from};
 ghost use Rattle.mirror_io.specs.Places.{IsWritePlace, IsReadPlace};
 

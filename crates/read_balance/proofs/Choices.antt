@@ -1,13 +1,13 @@
 -- The leg that a read goes to works, and there is one where some leg works.
 use Rattle.std.proofs.lemmas.Bool.Decides.{nat_tests, eqb_tells}
-use Rattle.std.proofs.Common.{◌⊎◌, inl, inr, ◌≡◌, ℕ, zero, suc, ◌+◌, ◌<◌, ◌≤◌, Bool, true, false, not, ◌||◌, Option, Some, None, is_some, refl, ap, sym, ◌∙◌, subst, arith, add-one, if◌then◌else◌}
+use Rattle.std.proofs.Common.{◌⊎◌, inl, inr, ◌≡◌, ℕ, zero, suc, ◌+◌, ◌<◌, ◌≤◌, Bool, true, false, not, ◌||◌, Option, Some, None, is_some, refl, ap, sym, ◌∙◌, arith, add-one, if◌then◌else◌}
 use Rattle.std.proofs.lemmas.Nat.Bits.{bit_at-lt, bit_at-zero, same_from_bits_below}
 use Rattle.std.specs.Int.{bit_at}
 use Rattle.mdc_types.specs.Bits.{has_bit}
 use Rattle.std.specs.Prelude.{◌^◌, ◌==◌, ◌↔◌, IsNone, MatchOption, IfSome, is_none, nat_le, ◌&&◌}
 use Rattle.dlm_modes.specs.First.{first_such, each_such}
-use Rattle.dlm_modes.proofs.FirstLaws.{IsFirst, first_such_some, first_such_none}
-use Rattle.read_balance.specs.Choice.{distance, is_nearest, nearest_leg, least_leg, chosen_leg, nearer_leg}
+use Rattle.dlm_modes.proofs.FirstLaws.{first_such_some, first_such_none}
+use Rattle.read_balance.specs.Choice.{distance, is_nearest, chosen_leg, nearer_leg}
 
 -- the nearest leg of those below n, as it is found in one pass
 abbrev pub nearest_below : (ℕ → Bool) → (ℕ → ℕ) → ℕ → ℕ → Option ℕ
@@ -174,6 +174,7 @@ none_of_set set head s first_only fits = (
   where
     clear : (b : ℕ) → b < 2 → ((b == 1) ≡ true → ⊥) → b ≡ 0
     clear b lt not = grind (arith, nat_tests, eqb_tells b 1)
+
     no_bit : (l : ℕ) → IsNone (chosen_leg (has_bit set) head s first_only) → l < 8 → bit_at set l ≡ bit_at 0 l
     no_bit l none lt = clear (bit_at set l) (bit_at-lt set l) (λ has. let some : is_some (chosen_leg (has_bit set) head s first_only) ≡ true = some_chosen (has_bit set) head s first_only l lt has in cc) ∙ sym (bit_at-zero l)
 

@@ -3,7 +3,7 @@
 //! Reads go to the leg whose head is nearest to the sector, as md's RAID-1 read balancing does.
 #![tactic(auto)]
 
-ghost use Rattle.std.specs.Prelude.{◌≡◌, ◌↔◌, ◌<◌, ◌+◌, IfSome, IsNone, get_or};
+ghost use Rattle.std.specs.Prelude.{◌≡◌, ◌↔◌, ◌<◌, IfSome, IsNone, get_or};
 ghost use Rattle.mdc_types.specs.Bits.{has_bit};
 ghost use Rattle.read_balance.specs.Choice.{chosen_leg, least_leg, nearest_leg, nearer_leg};
 
@@ -58,5 +58,32 @@ fn nearer_leg(heads: &[u32; 8], s: SectorNo, nearest: Option<LegId>, l: LegId) -
     match nearest {
         Some(k) if s.abs_diff(heads[k as usize]) <= s.abs_diff(heads[l as usize]) => k,
         _ => l,
+    }
+}
+
+#[cfg(test)]
+mod tests {
+    use super::*;
+
+    // The working legs, the sector, and the leg to be chosen, by nearness and with `first_only`.
+    const CASES: [(u8, SectorNo, Option<LegId>, Option<LegId>); 8] = [
+        (0b0000_0000, 60, None, None),
+        (0b0000_0111, 60, Some(2), Some(0)),
+        (0b0000_0011, 60, Some(0), Some(0)),
+        (0b0000_0110, 20, Some(1), Some(1)),
+        (0b1001_0000, 0, Some(4), Some(4)),
+        (0b1000_0000, 0, Some(7), Some(7)),
+        // Legs 0 and 3 are as near.
+        (0b0000_1001, 150, Some(0), Some(0)),
+        (0b1110_0000, 131_071, Some(5), Some(5)),
+    ];
+
+    #[test]
+    fn chooses_a_leg(rt: HostRuntime) {
+        let heads = [100, 0, 50, 200, 70, 131_000, 90_000, u32::MAX];
+        for (working, s, nearest, first) in CASES {
+            assert_eq!(rt; choose(working, &heads, s, false), nearest, "{working} {s}");
+            assert_eq!(rt; choose(working, &heads, s, true), first, "{working} {s}");
+        }
     }
 }

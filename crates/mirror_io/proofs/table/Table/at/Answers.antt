@@ -1,6 +1,4 @@
-use Rattle.std.proofs.Common.{◌≡◌, ◌<◌, length, get_or, sym, ap, ◌∙◌, rules, arith}
-use Rattle.std.proofs.lemmas.List.{get_or_default}
-use Rattle.mirror_io.specs.Table.{values_at}
+use Rattle.std.proofs.Common.{◌≡◌, ◌<◌, length, sym, ap, arith}
 use Rattle.mirror_io.proofs.Tables.{length-table, key_at, value_at}
 use Rattle.mirror_io.proofs.table.Table.at.Goals as goal
 

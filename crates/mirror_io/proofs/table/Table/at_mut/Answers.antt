@@ -1,6 +1,4 @@
-use Rattle.std.proofs.Common.{◌≡◌, ◌<◌, length, get_or, refl, sym, ap, ◌∙◌, rules, arith}
-use Rattle.std.proofs.lemmas.List.{get_or_default}
-use Rattle.mirror_io.specs.Table.{values_at}
+use Rattle.std.proofs.Common.{◌≡◌, ◌<◌, length, refl, sym, ap, arith}
 use Rattle.mirror_io.proofs.Tables.{length-table, key_at, value_at, IsTable-change, values_at-with_value}
 use Rattle.mirror_io.proofs.table.Table.at_mut.Goals as goal
 
@@ -29,8 +27,10 @@ invariant_of-self-lent g c =
 pub returns : goal.returns
 returns g c =
     let len : length c.self.inside.keys.items ≡ length c.args.self.now = length-table _ _ _ c.self.invariant c.self.view_is in
-    let within : c.args.i < length c.self.inside.keys.items = omega arith in
-    ((refl, λ w. rw (c.deref.ensures.0, ← c.self.view_is) (values_at-with_value _ _ _ w c.self.invariant within)), record {
-      writes_back = tt;
-      value = rw (← c.self.view_is) (sym (value_at c.self.inside.values _ _ _ c.self.invariant.are_keys within (rw c.deref.ensures.0 at c.index_mut.ensures.value)));
-    })
+    let within : c.args.i < length c.self.inside.keys.items = omega arith in (
+      (refl, λ w. rw (c.deref.ensures.0, ← c.self.view_is) (values_at-with_value _ _ _ w c.self.invariant within)),
+      record {
+        writes_back = tt;
+        value = rw (← c.self.view_is) (sym (value_at c.self.inside.values _ _ _ c.self.invariant.are_keys within (rw c.deref.ensures.0 at c.index_mut.ensures.value)));
+      },
+    )

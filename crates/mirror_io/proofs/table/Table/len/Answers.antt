@@ -1,6 +1,4 @@
-use Rattle.std.proofs.Common.{◌≡◌, ◌<◌, length, get_or, sym, ap, ◌∙◌, rules, arith}
-use Rattle.std.proofs.lemmas.List.{get_or_default}
-use Rattle.mirror_io.specs.Table.{values_at}
+use Rattle.std.proofs.Common.{◌∙◌}
 use Rattle.mirror_io.proofs.Tables.{length-table}
 use Rattle.mirror_io.proofs.table.Table.len.Goals as goal
 

@@ -1,5 +1,4 @@
-use Rattle.std.proofs.Common.{◌≡◌, ◌<◌, length, get_or, sym, ap, ◌∙◌, rules, arith}
-use Rattle.mirror_io.specs.Table.{values_at}
+use Rattle.std.proofs.Common.{◌≡◌, length, arith}
 use Rattle.mirror_io.proofs.Tables.{length-table, IsTable-push, values_at-push}
 use Rattle.mirror_io.proofs.table.Table.push.Goals as goal
 

@@ -1,6 +1,5 @@
-use Rattle.std.proofs.Common.{◌≡◌, ◌<◌, length, get_or, sym, ap, ◌∙◌, rules, arith}
+use Rattle.std.proofs.Common.{◌≡◌, ◌<◌, length, get_or, ◌∙◌, arith}
 use Rattle.std.proofs.lemmas.List.{get_or_default}
-use Rattle.mirror_io.specs.Table.{values_at}
 use Rattle.mirror_io.proofs.Tables.{length-table, key_at, IsTable-remove, values_at-remove}
 use Rattle.mirror_io.proofs.table.Table.remove.Goals as goal
 
