@@ -1,0 +1,6 @@
+pub mod Fields
+pub mod Lines
+pub mod Outcomes
+pub mod Refusals
+pub mod Values
+pub mod Words
