@@ -1,3 +1,4 @@
+pub mod Events
 pub mod Fields
 pub mod Lines
 pub mod Outcomes
