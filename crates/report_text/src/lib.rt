@@ -11,3 +11,6 @@ mod words;
 pub use events::event_text;
 pub use outcomes::outcome_text;
 pub use refusals::refusal_text;
+
+#[cfg(test)]
+mod tests;

@@ -33,6 +33,7 @@ fn push_byte(text: &mut String, byte: u8) -> Result<(), AllocError>
 fn push_bytes(text: &mut String, bytes: &[u8]) -> Result<(), AllocError>
     ensures { OnOk result (string_bytes text.new ≡ string_bytes text.old ++ flat_map hex_byte bytes.now) }
 {
+    text.reserve(2 * bytes.len())?;
     for byte in bytes {
         push_byte(text, *byte)?;
     }

@@ -1,4 +1,4 @@
-use Rattle.std.proofs.Common.{◌≡◌, ◌++◌, string_bytes, take, map}
+use Rattle.std.proofs.Common.{◌≡◌, string_bytes, take, map}
 use Rattle.report_text.specs.Fields.{field_text}
 use Rattle.report_text.specs.Lines.{line}
 use Rattle.report_text.proofs.line.join.Given as goal
