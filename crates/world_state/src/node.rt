@@ -2,7 +2,6 @@ ghost use Rattle.std.specs.Prelude.{◌≡◌, ◌<◌, ◌≤◌, ◌+◌, ◌-
 ghost use Rattle.dlm_modes.specs.First.{first_such};
 ghost use Rattle.mdc_types.specs.Bits.{has_bit, with_bit};
 ghost use Rattle.mdc_types.specs.Roles.{is_written, is_working, role_of};
-ghost use Rattle.mdc_types.specs.declared.outcomes.Outcome.TheVariants.{Io, Lost};
 ghost use Rattle.read_balance.specs.Choice.{nearest_leg};
 ghost use Rattle.mirror_io.specs.Flight.{write_in, read_in, without_write, without_read, new_write, new_read, start_in, done_in, missing_leg};
 ghost use Rattle.cluster_model.specs.Table.{any_of_sector};
@@ -10,7 +9,7 @@ ghost use Rattle.world_state.specs.Seen.{node_at, writes_with, reads_with, node_
 
 use crate::Opening;
 use mdc_types::{
-    LegId, NodeId, NodeState, Outcome, Range, ReadNo, Role, Roles, Sector, SectorNo, WriteNo,
+    LegId, NodeId, NodeState, Range, ReadNo, Role, Roles, Sector, SectorNo, WriteNo,
     has_leg, with_leg,
 };
 use mirror_io::{LiveRead, LiveWrite, NodeIo};
@@ -195,16 +194,11 @@ impl NodeParts {
         None
     }
 
-    /// What a failed transfer with the leg ends in: the last leg that the node reads from stays, any
-    /// other is lost.
-    pub fn failed(&self, l: LegId) -> Outcome
-        ensures { result ≡ (if node_reads self.now l && is_none (first_such (λ j. node_reads self.now j && not (j == l)) 0 8) then Io l else Lost l) }
+    /// Whether the leg is the last one that the node reads from.
+    pub fn is_last(&self, l: LegId) -> bool
+        ensures { result ≡ (node_reads self.now l && is_none (first_such (λ j. node_reads self.now j && not (j == l)) 0 8)) }
     {
-        if self.works(l) && self.other_leg(l).is_none() {
-            Outcome::Io(l)
-        } else {
-            Outcome::Lost(l)
-        }
+        self.works(l) && self.other_leg(l).is_none()
     }
 
     /// The leg whose head is nearest to the sector, of those that the node reads from.

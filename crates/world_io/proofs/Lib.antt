@@ -1,0 +1,3 @@
+mod Effecting
+mod Guarding
+mod Reading
