@@ -1,0 +1,7 @@
+//! The world: the state, the legs and the trace, and one event at a time.
+#![tactic(auto)]
+
+mod apply;
+mod world;
+
+pub use world::{NoWorld, StepEnd, TRACE_LIMIT, World};
