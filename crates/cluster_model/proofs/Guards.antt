@@ -14,7 +14,7 @@ use Rattle.mirror_io.specs.declared.live.LiveWrite.{LiveWrite}
 use Rattle.mirror_io.specs.declared.live.LiveRead.{LiveRead}
 use Rattle.mirror_io.specs.Flight.{write_in, read_in, missing_leg, is_done}
 use Rattle.cluster_model.specs.State.{Core, is_target}
-use Rattle.cluster_model.specs.Table.{unless, first_of, refusal, no_node, not_live, not_up, no_leg, no_sector, no_write, no_read, not_target, not_written, unwritten_leg, writer_of, in_flight, any_of_sector, full}
+use Rattle.cluster_model.specs.Table.{unless, first_of, refusal, no_node, not_live, not_up, no_leg, no_sector, no_write, no_read, not_target, unacked, unacked_leg, not_written, unwritten_leg, writer_of, in_flight, any_of_sector, full}
 
 -- where no guard refuses, each holds
 first_of_none : (g : Option Refusal) (rest : List (Option Refusal)) → first_of (g ∷ rest) ≡ None → (g ≡ None) × (first_of rest ≡ None)
@@ -70,6 +70,7 @@ pub record OutAt (core : Core) (n k l : ℕ) : Type 0 where
   pub w : LiveWrite
   pub found : write_in k (core.writes n) ≡ Some w
   pub target : is_target core n l ≡ true
+  pub acked : (j : ℕ) → j < 8 → core.lost n j ≡ false
 
 pub record Found {A : Type 0} (x : Option A) : Type 0 where
   pub item : A
@@ -83,6 +84,10 @@ read_some : (k : ℕ) (x : Option LiveRead) → no_read k x ≡ None → Found x
 read_some k None is = cc
 read_some k (Some r) is = record { item = r; is = refl }
 
+unacked_none : (x : Option ℕ) → unacked x ≡ None → x ≡ None
+unacked_none None is = refl
+unacked_none (Some l) is = cc
+
 pub out_at : (core : Core) (n k l : ℕ) → refusal core (Out n k l) ≡ None → OutAt core n k l
 out_at core n k l ok =
     let g1 = first_of_none (no_node core n) _ ok in
@@ -91,6 +96,7 @@ out_at core n k l ok =
     let g4 = first_of_none (not_up (core.state n)) _ g3.1 in
     let g5 = first_of_none (no_write k (write_in k (core.writes n))) _ g4.1 in
     let g6 = first_of_none (not_target core n l) _ g5.1 in
+    let g7 = first_of_none (unacked (unacked_leg core n)) _ g6.1 in
     let found = write_some k _ g5.0 in
     record {
       there = lt_from _ _ (unless_none _ _ g1.0);
@@ -99,6 +105,7 @@ out_at core n k l ok =
       w = found.item;
       found = found.is;
       target = unless_none _ _ g6.0;
+      acked = λ j lt. first_such_none _ 0 8 (unacked_none _ g7.0) j (omega arith) (omega (arith, lt));
     }
 
 -- the end of a write: each target has it
@@ -107,6 +114,7 @@ pub record EndAt (core : Core) (n k : ℕ) : Type 0 where
   pub up : core.state n ≡ states.Up
   pub w : LiveWrite
   pub found : write_in k (core.writes n) ≡ Some w
+  pub acked : (j : ℕ) → j < 8 → core.lost n j ≡ false
   pub all : (l : ℕ) → l < 8 → (is_target core n l && not (is_done w l)) ≡ false
 
 written_none : (x : Option ℕ) → not_written x ≡ None → x ≡ None
@@ -122,14 +130,16 @@ end_at core n k ok =
     let g2 = first_of_none (not_live n (core.state n)) _ g1.1 in
     let g3 = first_of_none (not_up (core.state n)) _ g2.1 in
     let g4 = first_of_none (no_write k (write_in k (core.writes n))) _ g3.1 in
-    let g5 = first_of_none (not_written (unwritten_leg core n (write_in k (core.writes n)))) _ g4.1 in
+    let g5 = first_of_none (unacked (unacked_leg core n)) _ g4.1 in
+    let g6 = first_of_none (not_written (unwritten_leg core n (write_in k (core.writes n)))) _ g5.1 in
     let found = write_some k _ g4.0 in
-    let none = all_done core n _ found.item found.is (written_none _ g5.0) in
+    let none = all_done core n _ found.item found.is (written_none _ g6.0) in
     record {
       there = lt_from _ _ (unless_none _ _ g1.0);
       up = up_none _ g3.0;
       w = found.item;
       found = found.is;
+      acked = λ j lt. first_such_none _ 0 8 (unacked_none _ g5.0) j (omega arith) (omega (arith, lt));
       all = λ l lt. first_such_none _ 0 8 none l (omega arith) (omega (arith, lt));
     }
 

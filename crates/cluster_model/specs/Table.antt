@@ -6,7 +6,7 @@ use Rattle.mdc_types.specs.Roles.{state_word}
 use Rattle.mdc_types.specs.declared.events.Event.{Event}
 use Rattle.mdc_types.specs.declared.events.Event.TheVariants.{AskWrite, Out, EndWrite, AskRead, In}
 use Rattle.mdc_types.specs.declared.refusals.Refusal.{Refusal}
-use Rattle.mdc_types.specs.declared.refusals.Refusal.TheVariants.{NoNode, NotUp, NoLeg, NotPhase, NoSector, NoWrite, NoRead, NotNeeded, NotTarget, NotWritten, InFlight, Full}
+use Rattle.mdc_types.specs.declared.refusals.Refusal.TheVariants.{NoNode, NotUp, NoLeg, NotPhase, NoSector, NoWrite, NoRead, NotNeeded, Unacked, NotTarget, NotWritten, InFlight, Full}
 use Rattle.mdc_types.specs.declared.refusals.Part.TheVariants as parts
 use Rattle.mdc_types.specs.declared.roles.NodeState.{NodeState}
 use Rattle.mdc_types.specs.declared.roles.NodeState.TheVariants as states
@@ -46,6 +46,14 @@ no_leg core l = unless (nat_lt l core.sizes.legs) (NoLeg l)
 
 abbrev pub not_target : Core → ℕ → ℕ → Option Refusal
 not_target core n l = unless (is_target core n l) (NotTarget l)
+
+-- the first leg that the node lost, whose loss the others have not acknowledged
+abbrev pub unacked_leg : Core → ℕ → Option ℕ
+unacked_leg core n = first_such (core.lost n) 0 8
+
+abbrev pub unacked : Option ℕ → Option Refusal
+unacked None = None
+unacked (Some l) = Some (Unacked l)
 
 abbrev pub no_sector : Core → ℕ → ℕ → Option Refusal
 no_sector core n s = unless (nat_lt s (core.sure_size n)) (NoSector s)
@@ -97,8 +105,8 @@ is_built e = false
 -- the first guard of the event that fails
 abbrev pub refusal : Core → Event → Option Refusal
 refusal core (AskWrite n s v) = first_of (no_node core n ∷ not_live n (core.state n) ∷ not_up (core.state n) ∷ no_sector core n s ∷ in_flight (writer_of core s) ∷ full n (length (core.writes n)) ∷ [])
-refusal core (Out n k l) = first_of (no_node core n ∷ not_live n (core.state n) ∷ no_leg core l ∷ not_up (core.state n) ∷ no_write k (write_in k (core.writes n)) ∷ not_target core n l ∷ [])
-refusal core (EndWrite n k) = first_of (no_node core n ∷ not_live n (core.state n) ∷ not_up (core.state n) ∷ no_write k (write_in k (core.writes n)) ∷ not_written (unwritten_leg core n (write_in k (core.writes n))) ∷ [])
+refusal core (Out n k l) = first_of (no_node core n ∷ not_live n (core.state n) ∷ no_leg core l ∷ not_up (core.state n) ∷ no_write k (write_in k (core.writes n)) ∷ not_target core n l ∷ unacked (unacked_leg core n) ∷ [])
+refusal core (EndWrite n k) = first_of (no_node core n ∷ not_live n (core.state n) ∷ not_up (core.state n) ∷ no_write k (write_in k (core.writes n)) ∷ unacked (unacked_leg core n) ∷ not_written (unwritten_leg core n (write_in k (core.writes n))) ∷ [])
 refusal core (AskRead n s) = first_of (no_node core n ∷ not_live n (core.state n) ∷ not_up (core.state n) ∷ no_sector core n s ∷ full n (length (core.reads n)) ∷ [])
 refusal core (In n k) = first_of (no_node core n ∷ not_live n (core.state n) ∷ not_up (core.state n) ∷ no_read k (read_in k (core.reads n)) ∷ [])
 -- no other event has its row yet

@@ -14,8 +14,9 @@ use Rattle.read_balance.specs.Choice.{nearest_leg}
 use Rattle.mirror_io.specs.declared.live.LiveWrite.{LiveWrite}
 use Rattle.mirror_io.specs.declared.live.LiveRead.{LiveRead}
 use Rattle.mirror_io.specs.Flight.{write_in, read_in, without_write, without_read, new_write, new_read, start_in, done_in}
+use Rattle.cluster_model.specs.State.{Core}
 use Rattle.cluster_model.specs.Table.{refusal}
-use Rattle.cluster_model.specs.Effects.{after}
+use Rattle.cluster_model.specs.Effects.{after, head_at_write}
 use Rattle.cluster_model.proofs.Guards.{write_at, out_at, end_at, read_at, in_at}
 use Rattle.cluster_model.proofs.Same.{same_core, get-set}
 use Rattle.world_state.specs.Seen.{Node, Parts, at, core_of, no_node, node_reads, node_head}
@@ -28,6 +29,20 @@ ask_write_seen p n s k v got new count ok is e =
     let here : got ≡ at p.nodes n = is ∙ get_or_default p.nodes n got no_node lt in
     same_core _ _ (grind (arith, get-set, length-set))
 
+head_is : (core : Core) (n k l s : ℕ) (w : LiveWrite) (m j : ℕ) → write_in k (core.writes n) ≡ Some w → s ≡ w.sector
+    → (if m == n && j == l then s else core.head m j) ≡ head_at_write core n l (write_in k (core.writes n)) m j
+head_is core n k l s w m j found same = rw (found, same) refl
+
+-- the head of a leg after a transfer
+head_from : (p : Parts) (n l s m j : ℕ) (new : Node) (b : Bool) → (m == n) ≡ b → l < length (at p.nodes n).heads → new.heads ≡ slice_set (at p.nodes n).heads l s
+    → get_or (if m == n then new else at p.nodes m).heads j 0 ≡ (if m == n && j == l then s else get_or (at p.nodes m).heads j 0)
+head_from p n l s m j new true is lt e = let same : m ≡ n = grind (arith, nat_tests) in rw (is, e, get-set (at p.nodes n).heads l j s 0 lt) (rw same refl)
+head_from p n l s m j new false is lt e = rw is refl
+
+head_seen : (p : Parts) (n l s m j : ℕ) (new : Node) → l < length (at p.nodes n).heads → new.heads ≡ slice_set (at p.nodes n).heads l s
+    → get_or (if m == n then new else at p.nodes m).heads j 0 ≡ (if m == n && j == l then s else get_or (at p.nodes m).heads j 0)
+head_seen p n l s m j new lt e = head_from p n l s m j new (m == n) refl lt e
+
 pub out_done_seen : (p : Parts) (n k l s : ℕ) (got new : Node) → length p.nodes ≡ nodes_of p.sizes → refusal (core_of p) (Out n k l) ≡ None → got ≡ get_or p.nodes n got → length got.heads ≡ 8 → l < 8
     → ((w : LiveWrite) → write_in k ((core_of p).writes n) ≡ Some w → s ≡ w.sector)
     → new ≡ record got { heads = slice_set got.heads l s; flight = record got.flight { writes = done_in k l (start_in k got.flight.writes) } }
@@ -37,7 +52,20 @@ out_done_seen p n k l s got new count ok is eight leg sector e =
     let lt : n < length p.nodes = omega (arith, count, a.there) in
     let here : got ≡ at p.nodes n = is ∙ get_or_default p.nodes n got no_node lt in
     let same : s ≡ a.w.sector = sector a.w a.found in
-    same_core _ _ (grind (arith, get-set, length-set, a.found))
+    let field : (m : ℕ) → at (set p.nodes n new) m ≡ (if m == n then new else at p.nodes m) = λ m. get-set p.nodes n m new no_node lt in
+    let heads : l < length (at p.nodes n).heads = rw (← here) (omega (arith, eight, leg)) in
+    same_core _ _ (record {
+      sizes = refl;
+      state = grind (arith, field, e, here);
+      role = grind (arith, field, e, here);
+      lost = grind (arith, field, e, here);
+      sure_size = grind (arith, field, e, here);
+      head = λ m j. ap (λ x. get_or x.heads j 0) (field m) ∙ head_seen p n l s m j new heads (rw (e, here) refl) ∙ head_is (core_of p) n k l s a.w m j a.found same;
+      writes = grind (arith, field, e, here);
+      reads = grind (arith, field, e, here);
+      writes_made = grind (arith, field, e, here);
+      reads_made = grind (arith, field, e, here);
+    })
 
 pub out_io_seen : (p : Parts) (n k l : ℕ) (got new : Node) → length p.nodes ≡ nodes_of p.sizes → refusal (core_of p) (Out n k l) ≡ None → got ≡ get_or p.nodes n got
     → new ≡ record got { flight = record got.flight { writes = without_write k got.flight.writes } }

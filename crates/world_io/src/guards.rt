@@ -2,7 +2,7 @@ ghost use Rattle.std.specs.Prelude.{◌<◌, ◌-◌, ◌^◌, IsSome};
 ghost use Rattle.mdc_types.specs.Geometry.{nodes_of};
 ghost use Rattle.mdc_types.specs.declared.numbers.Sector.{Sector};
 ghost use Rattle.mirror_io.specs.Flight.{write_in, read_in};
-ghost use Rattle.cluster_model.specs.Table.{unless, not_live, not_up, no_write, no_read, not_written, unwritten_leg, in_flight, writer_of, refusal};
+ghost use Rattle.cluster_model.specs.Table.{unless, not_live, not_up, no_write, no_read, unacked, unacked_leg, not_written, unwritten_leg, in_flight, writer_of, refusal};
 ghost use Rattle.world_state.specs.Seen.{Judges, core_of};
 
 use mdc_types::{Event, LegId, NodeId, NodeState, Part, ReadNo, Refusal, SectorNo, WriteNo};
@@ -65,6 +65,17 @@ fn check_read(core: &CoreState, n: NodeId, k: ReadNo) -> Result<(), Refusal>
     }
 }
 
+// The others have acknowledged the node's losses.
+fn check_acked(core: &CoreState, n: NodeId) -> Result<(), Refusal>
+    requires { n < nodes_of core.now.sizes }
+    ensures { Judges result (unacked (unacked_leg (core_of core.now) n)) }
+{
+    match core.node(n).unacked() {
+        None => Ok(()),
+        Some(l) => Err(Refusal::Unacked(l)),
+    }
+}
+
 // Each target has the write's value.
 fn check_written(core: &CoreState, n: NodeId, k: WriteNo) -> Result<(), Refusal>
     requires node { n < nodes_of core.now.sizes }
@@ -101,7 +112,8 @@ pub fn may_out(core: &CoreState, n: NodeId, k: WriteNo, l: LegId) -> Result<(), 
     core.check_leg(l)?;
     check_up(node.state())?;
     check_write(core, n, k)?;
-    check(node.is_target(l), Refusal::NotTarget(l))
+    check(node.is_target(l), Refusal::NotTarget(l))?;
+    check_acked(core, n)
 }
 
 /// The guards of the end of a write.
@@ -113,6 +125,7 @@ pub fn may_end_write(core: &CoreState, n: NodeId, k: WriteNo) -> Result<(), Refu
     check_live(n, node.state())?;
     check_up(node.state())?;
     check_write(core, n, k)?;
+    check_acked(core, n)?;
     check_written(core, n, k)
 }
 

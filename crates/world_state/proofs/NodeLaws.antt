@@ -42,9 +42,9 @@ one_more p set l so_far passes j = grind (arith, nat_tests, has_bit-with_bit set
 
 pub no_more : (p : ℕ → Bool) (set l : ℕ) → ((j : ℕ) → has_bit set j ≡ (nat_lt j l && p j)) → p l ≡ false → (j : ℕ) → has_bit set j ≡ (nat_lt j (l + 1) && p j)
 no_more p set l so_far fails j = elim (same_or_not j l) [
-      | inl same ↦ grind (arith, nat_tests, so_far j)
-      | inr other ↦ grind (arith, nat_tests, so_far j)
-    ]
+  | inl same ↦ grind (arith, nat_tests, so_far j)
+  | inr other ↦ grind (arith, nat_tests, so_far j)
+]
 
 pub all_made : (p : ℕ → Bool) (set l : ℕ) → ((j : ℕ) → has_bit set j ≡ (nat_lt j l && p j)) → 8 ≤ l → (j : ℕ) → j < 8 → has_bit set j ≡ p j
 all_made p set l so_far most j below = grind (arith, nat_tests, so_far j)
@@ -65,7 +65,7 @@ missing_same p q w same = first_same _ _ 0 8 (λ k le lt. rw (same k (omega arit
 is_nearest_same : (p q : ℕ → Bool) (head : ℕ → ℕ) (s l : ℕ) → l < 8 → ((l : ℕ) → l < 8 → p l ≡ q l) → is_nearest p head s l ≡ is_nearest q head s l
 is_nearest_same p q head s l below same =
     let each : each_such (λ j. not (p j) || nat_le (distance s (head l)) (distance s (head j))) 0 8 ≡ each_such (λ j. not (q j) || nat_le (distance s (head l)) (distance s (head j))) 0 8 =
-        ap is_none (first_same _ _ 0 8 (λ k le lt. rw (same k (omega arith)) refl)) in
+    ap is_none (first_same _ _ 0 8 (λ k le lt. rw (same k (omega arith)) refl)) in
     rw (same l below, each) refl
 
 pub nearest_same : (p q : ℕ → Bool) (head : ℕ → ℕ) (s : ℕ) → ((l : ℕ) → l < 8 → p l ≡ q l) → nearest_leg p head s ≡ nearest_leg q head s

@@ -24,9 +24,9 @@ none_at o n is = rw is refl
 
 all_nodes : (o : Origin) (nodes : List Node) → IsOrigin o → AreAtOpening o (nodes_of o.sizes) nodes → (n : ℕ) → at nodes n ≡ node_at o n
 all_nodes o nodes i a n = elim (below_or_not n (nodes_of o.sizes)) [
-      | inl below ↦ a.each n below
-      | inr past ↦ get_or_past nodes n no_node (omega (arith, a.all)) ∙ sym (none_at o n (has_bit_past o.members (nodes_of o.sizes) n i.members past))
-    ]
+  | inl below ↦ a.each n below
+  | inr past ↦ get_or_past nodes n no_node (omega (arith, a.all)) ∙ sym (none_at o n (has_bit_past o.members (nodes_of o.sizes) n i.members past))
+]
 
 abbrev member_at : Origin → Node
 member_at o = record no_node { state = Up; roles = o.roles; sure_size = o.sizes.sectors }

@@ -9,8 +9,8 @@ ghost use Rattle.world_state.specs.Seen.{node_at, writes_with, reads_with, node_
 
 use crate::Opening;
 use mdc_types::{
-    LegId, NodeId, NodeState, Range, ReadNo, Role, Roles, Sector, SectorNo, WriteNo,
-    has_leg, with_leg,
+    LegId, NodeId, NodeState, Range, ReadNo, Role, Roles, Sector, SectorNo, WriteNo, has_leg,
+    with_leg,
 };
 use mirror_io::{LiveRead, LiveWrite, NodeIo};
 use read_balance::choose;
@@ -73,6 +73,17 @@ fn has_lost(lost: u8, l: LegId) -> bool
         return has_leg(lost, l);
     }
     false
+}
+
+fn first_lost(lost: u8) -> Option<LegId>
+    ensures { result ≡ first_such (λ l. has_bit lost l) 0 8 }
+{
+    for l in 0..8 {
+        if has_leg(lost, l) {
+            return Some(l);
+        }
+    }
+    None
 }
 
 fn is_target(roles: &Roles, lost: u8, l: LegId) -> bool
@@ -182,6 +193,13 @@ impl NodeParts {
         working(&self.roles, self.lost)
     }
 
+    /// The first leg that it lost. The others haven't acknowledged the loss.
+    pub fn unacked(&self) -> Option<LegId>
+        ensures { result ≡ first_such (λ l. has_bit self.now.lost l) 0 8 }
+    {
+        first_lost(self.lost)
+    }
+
     /// Another leg that it reads from, the first one.
     pub fn other_leg(&self, l: LegId) -> Option<LegId>
         ensures { result ≡ first_such (λ j. node_reads self.now j && not (j == l)) 0 8 }
@@ -279,10 +297,12 @@ impl NodeParts {
         requires room { length self.old.flight.writes < 16 }
         requires numbers { self.old.flight.writes_made < 2 ^ 32 - 1 }
         ensures number { result ≡ self.old.flight.writes_made }
-        ensures asked { self.new ≡ record self.old { flight = record self.old.flight {
-          writes = self.old.flight.writes ++ new_write self.old.flight.writes_made s v.now ∷ [];
-          writes_made = self.old.flight.writes_made + 1;
-        } } }
+        ensures asked { self.new ≡ record self.old {
+          flight = record self.old.flight {
+            writes = self.old.flight.writes ++ new_write self.old.flight.writes_made s v.now ∷ [];
+            writes_made = self.old.flight.writes_made + 1;
+          };
+        } }
     {
         match self.io.ask_write(s, v) {
             Ok(k) => k,
@@ -295,10 +315,12 @@ impl NodeParts {
         requires room { length self.old.flight.reads < 16 }
         requires numbers { self.old.flight.reads_made < 2 ^ 32 - 1 }
         ensures number { result ≡ self.old.flight.reads_made }
-        ensures asked { self.new ≡ record self.old { flight = record self.old.flight {
-          reads = self.old.flight.reads ++ new_read self.old.flight.reads_made s (unwrap_or (nearest_leg (node_reads self.old) (node_head self.old) s) 0) ∷ [];
-          reads_made = self.old.flight.reads_made + 1;
-        } } }
+        ensures asked { self.new ≡ record self.old {
+          flight = record self.old.flight {
+            reads = self.old.flight.reads ++ new_read self.old.flight.reads_made s (unwrap_or (nearest_leg (node_reads self.old) (node_head self.old) s) 0) ∷ [];
+            reads_made = self.old.flight.reads_made + 1;
+          };
+        } }
     {
         let chosen = self.chosen(s);
         match self.io.ask_read(s, chosen) {

@@ -1,4 +1,3 @@
-
 use Rattle.world_state.specs.Seen.{AreAtOpening}
 use Rattle.world_state.proofs.state.opening_nodes.Given as goal
 
