@@ -1,5 +1,5 @@
 -- Lines and words of bytes.
-use Rattle.std.specs.Prelude.{ℕ, ◌+◌, ◌==◌, Bool, List, [], ◌∷◌, ◌++◌, take, if◌then◌else◌, codes}
+use Rattle.std.specs.Prelude.{◌≡◌, ℕ, ◌+◌, ◌<◌, ◌==◌, Bool, List, [], ◌∷◌, ◌++◌, length, take, if◌then◌else◌, codes, Option, Some, None}
 use Rattle.std.specs.List.{onto_first, slice_split, before_first, concat}
 use Rattle.std.specs.Str.{bytes_eq}
 
@@ -15,6 +15,19 @@ text_of line = before_first (λ b. b == 10) line
 -- the words, each parted from the next by one space
 abbrev pub words_of : List ℕ → List (List ℕ)
 words_of text = slice_split (λ b. b == 32) text
+
+-- the words after the first, where a space follows it
+abbrev pub words_after : Option (List ℕ) → List (List ℕ)
+words_after None = []
+words_after (Some text) = words_of text
+
+-- the bytes are a line of this text, and then the rest
+pub record BeginsWithLine (bytes text rest : List ℕ) : Type 0 where
+  pub line : List ℕ
+  pub lines : lines_of bytes ≡ line ∷ lines_of rest
+  pub text_is : text_of line ≡ text
+  pub size : length line + length rest ≡ length bytes
+  pub some : 0 < length line
 
 -- the lines up to the first that is `end` and a line feed
 abbrev pub through_end : List (List ℕ) → List (List ℕ)
