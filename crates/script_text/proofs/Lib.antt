@@ -1,2 +1,4 @@
 pub mod OutsideLaws
 pub mod LinesLaws
+pub mod NumbersLaws
+pub mod HexLaws
