@@ -4,7 +4,11 @@ use Rattle.std.proofs.lemmas.List.{take_all, drop_all, take_rest, length-take, l
 use Rattle.std.proofs.lemmas.List.Sums.{prefix_len-le-length}
 use Rattle.std.proofs.lemmas.Bool.Decides.{nat_tests}
 use Rattle.std.specs.List.{onto_first, position_or_len, position}
-use Rattle.script_text.specs.Lines.{lines_of, text_of, words_of, BeginsWithLine}
+use Rattle.script_text.specs.Lines.{lines_of, text_of, words_of, words_after, one, BeginsWithLine}
+use Rattle.std.specs.Borrow.{Bor}
+use Rattle.std.specs.Option.{option_copied}
+use Rattle.std.specs.Prelude.{is_some}
+use Rattle.std.proofs.lemmas.Bool.{false≢true}
 
 -- where the first line feed stands, or how many bytes there are
 abbrev pub feed : List ℕ → ℕ
@@ -108,3 +112,18 @@ words_only (b ∷ text) is =
       | true ↦ λ is. absurd (omega (arith, is))
       | false ↦ λ is. ap (onto_first b) (words_only text (omega (arith, is)))
     ] is
+
+-- there is a first word
+pub words_some : (text : List ℕ) → (word : List ℕ) × (others : List (List ℕ)) × (words_of text ≡ word ∷ others)
+words_some [] = ([], [], refl)
+words_some (b ∷ text) =
+    let w = words_some text in
+    elim (b == 32) as (λ v. (word : List ℕ) × (others : List (List ℕ)) × (cond v ([] ∷ words_of text) (onto_first b (words_of text)) ≡ word ∷ others)) [
+      | true ↦ ([], words_of text, refl)
+      | false ↦ (b ∷ w.0, w.1, ap (onto_first b) w.2)
+    ]
+
+-- more than one word
+pub one_more : (text word : List ℕ) (others : Option (Bor (List ℕ))) → words_of text ≡ word ∷ words_after (option_copied others) → true ≡ is_some others → None ≡ one (words_of text)
+one_more text word None is some = absurd (false≢true (sym some))
+one_more text word (Some more) is some = let w = words_some more.now in rw (is, w.2) refl

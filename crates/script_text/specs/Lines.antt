@@ -21,6 +21,23 @@ abbrev pub words_after : Option (List ℕ) → List (List ℕ)
 words_after None = []
 words_after (Some text) = words_of text
 
+-- just so many words
+abbrev pub one : List (List ℕ) → Option (List ℕ)
+one (a ∷ []) = Some a
+one words = None
+
+abbrev pub two : List (List ℕ) → Option (List ℕ × List ℕ)
+two (a ∷ b ∷ []) = Some (a, b)
+two words = None
+
+abbrev pub three : List (List ℕ) → Option (List ℕ × List ℕ × List ℕ)
+three (a ∷ b ∷ c ∷ []) = Some (a, b, c)
+three words = None
+
+abbrev pub four : List (List ℕ) → Option (List ℕ × List ℕ × List ℕ × List ℕ)
+four (a ∷ b ∷ c ∷ d ∷ []) = Some (a, b, c, d)
+four words = None
+
 -- the bytes are a line of this text, and then the rest
 pub record BeginsWithLine (bytes text rest : List ℕ) : Type 0 where
   pub line : List ℕ

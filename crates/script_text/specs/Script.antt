@@ -11,7 +11,7 @@ use Rattle.script_text.specs.declared.faults.ScriptEnd.{ScriptEnd}
 use Rattle.script_text.specs.declared.faults.ScriptEnd.TheVariants.{Fault, Memory}
 use Rattle.script_text.specs.declared.faults.ScriptFault.{ScriptFault}
 use Rattle.script_text.specs.declared.faults.FaultKind.TheVariants as kinds
-use Rattle.script_text.specs.Lines.{lines_of, text_of, words_of, script_limit}
+use Rattle.script_text.specs.Lines.{lines_of, text_of, words_of, script_limit, two, three, four}
 use Rattle.script_text.specs.Numbers.{◌>>=◌, guarded, number_of, byte_of, value_of}
 
 pub record ScriptValue : Type 0 where
@@ -22,28 +22,45 @@ pub record ScriptValue : Type 0 where
 
 -- `w N S V`
 abbrev pub ask_write : List (List ℕ) → Option Event
-ask_write (n ∷ s ∷ v ∷ []) = byte_of n >>= λ node. number_of s >>= λ sector. value_of v >>= λ value. Some (AskWrite node sector value)
-ask_write args = None
+ask_write args = do
+  words ← three args
+  node ← byte_of words.0
+  sector ← number_of words.1
+  value ← value_of words.2
+  Some (AskWrite node sector value)
 
 -- `out N K L`
 abbrev pub out_write : List (List ℕ) → Option Event
-out_write (n ∷ k ∷ l ∷ []) = byte_of n >>= λ node. number_of k >>= λ write. byte_of l >>= λ leg. Some (Out node write leg)
-out_write args = None
+out_write args = do
+  words ← three args
+  node ← byte_of words.0
+  write ← number_of words.1
+  leg ← byte_of words.2
+  Some (Out node write leg)
 
 -- `ok N K`
 abbrev pub end_write : List (List ℕ) → Option Event
-end_write (n ∷ k ∷ []) = byte_of n >>= λ node. number_of k >>= λ write. Some (EndWrite node write)
-end_write args = None
+end_write args = do
+  words ← two args
+  node ← byte_of words.0
+  write ← number_of words.1
+  Some (EndWrite node write)
 
 -- `r N S`
 abbrev pub ask_read : List (List ℕ) → Option Event
-ask_read (n ∷ s ∷ []) = byte_of n >>= λ node. number_of s >>= λ sector. Some (AskRead node sector)
-ask_read args = None
+ask_read args = do
+  words ← two args
+  node ← byte_of words.0
+  sector ← number_of words.1
+  Some (AskRead node sector)
 
 -- `in N K`
 abbrev pub in_read : List (List ℕ) → Option Event
-in_read (n ∷ k ∷ []) = byte_of n >>= λ node. number_of k >>= λ read. Some (In node read)
-in_read args = None
+in_read args = do
+  words ← two args
+  node ← byte_of words.0
+  read ← number_of words.1
+  Some (In node read)
 
 abbrev pub event_of : List ℕ → List (List ℕ) → Option Event
 event_of word args =
@@ -55,7 +72,9 @@ event_of word args =
     else None
 
 abbrev pub line_of : List ℕ → List (List ℕ) → Option Line
-line_of word args = event_of word args >>= λ event. Some (line_kinds.Event event)
+line_of word args = do
+  event ← event_of word args
+  Some (line_kinds.Event event)
 
 -- whether a line's event is one of those above
 abbrev pub is_line_event : Event → Bool
@@ -75,13 +94,18 @@ is_event_line (line_kinds.Event event) = is_line_event event
 abbrev pub is_start : Start → Bool
 is_start s = (s.nodes == 1) && is_ok (geometry_of s.legs s.sectors s.sectors s.chunk false)
 
+abbrev pub warm_with : ℕ → ℕ → ℕ → ℕ → Start
+warm_with legs sectors chunk nodes = record { legs = legs; sectors = sectors; chunk = chunk; nodes = nodes; warm = true; spares = 0 }
+
 -- `warm LEGS SECTORS CHUNK NODES`
 abbrev pub warm_start : List (List ℕ) → Option Start
-warm_start (l ∷ s ∷ c ∷ n ∷ []) =
-    number_of l >>= λ legs. number_of s >>= λ sectors. number_of c >>= λ chunk. number_of n >>= λ nodes.
-    let start : Start = record { legs = legs; sectors = sectors; chunk = chunk; nodes = nodes; warm = true; spares = 0 } in
-    guarded (is_start start) start
-warm_start args = None
+warm_start args = do
+  words ← four args
+  legs ← number_of words.0
+  sectors ← number_of words.1
+  chunk ← number_of words.2
+  nodes ← number_of words.3
+  guarded (is_start (warm_with legs sectors chunk nodes)) (warm_with legs sectors chunk nodes)
 
 abbrev pub start_of : List ℕ → List (List ℕ) → Option Start
 start_of word args = if bytes_eq word (codes "warm") then warm_start args else None
@@ -102,10 +126,16 @@ is_end word [] = bytes_eq word (codes "end")
 is_end word (arg ∷ args) = false
 
 abbrev pub onto_lines : Option Line → Option (List Line) → Option (List Line)
-onto_lines line lines = line >>= λ first. lines >>= λ others. Some (first ∷ others)
+onto_lines line lines = do
+  first ← line
+  others ← lines
+  Some (first ∷ others)
 
 abbrev pub with_lines : Option Start → Option (List Line) → Option ScriptValue
-with_lines start lines = start >>= λ s. lines >>= λ ls. Some (record { start = s; lines = ls })
+with_lines start lines = do
+  s ← start
+  ls ← lines
+  Some (record { start = s; lines = ls })
 
 -- a line, and the lines after it
 abbrev pub line_then : Option (List (List ℕ)) → Option (List Line) → Option (List Line)

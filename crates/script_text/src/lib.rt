@@ -2,7 +2,9 @@
 #![tactic(auto)]
 
 mod command;
+mod events;
 mod faults;
+mod header;
 mod input;
 mod lines;
 mod memory;

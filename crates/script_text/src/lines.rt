@@ -1,7 +1,7 @@
-ghost use Rattle.std.specs.Prelude.{◌≡◌, ◌==◌, ◌<◌, ◌∷◌, length};
-ghost use Rattle.std.specs.Option.{option_copied};
+ghost use Rattle.std.specs.Prelude.{◌≡◌, ◌==◌, ◌<◌, ◌∷◌, length, None};
+ghost use Rattle.std.specs.Option.{option_copied, option_map};
 ghost use Rattle.std.specs.List.{position};
-ghost use Rattle.script_text.specs.Lines.{BeginsWithLine, words_of, words_after};
+ghost use Rattle.script_text.specs.Lines.{BeginsWithLine, words_of, words_after, one, two, three, four};
 
 fn line_feed(bytes: &[u8]) -> Option<usize>
     ensures { result ≡ position (λ b. b == 10) bytes.now }
@@ -28,4 +28,39 @@ pub(crate) fn split_word(text: &str) -> (&str, Option<&str>)
         Some((word, rest)) => (word, Some(rest)),
         None => (text, None),
     }
+}
+
+// The words after the first, where there are just so many.
+
+fn one(args: Option<&str>) -> Option<&str>
+    ensures { option_copied result ≡ one (words_after (option_copied args.entry)) }
+{
+    let (word, others) = split_word(args?);
+    if others.is_some() {
+        return None;
+    }
+    Some(word)
+}
+
+pub(crate) fn two(args: Option<&str>) -> Option<(&str, &str)>
+    ensures { option_map (λ words. (words.0.now, words.1.now)) result ≡ two (words_after (option_copied args.entry)) }
+{
+    let (first, others) = split_word(args?);
+    Some((first, one(others)?))
+}
+
+pub(crate) fn three(args: Option<&str>) -> Option<(&str, &str, &str)>
+    ensures { option_map (λ words. (words.0.now, words.1.now, words.2.now)) result ≡ three (words_after (option_copied args.entry)) }
+{
+    let (first, others) = split_word(args?);
+    let (second, third) = two(others)?;
+    Some((first, second, third))
+}
+
+pub(crate) fn four(args: Option<&str>) -> Option<(&str, &str, &str, &str)>
+    ensures { option_map (λ words. (words.0.now, words.1.now, words.2.now, words.3.now)) result ≡ four (words_after (option_copied args.entry)) }
+{
+    let (first, others) = split_word(args?);
+    let (second, third, fourth) = three(others)?;
+    Some((first, second, third, fourth))
 }
