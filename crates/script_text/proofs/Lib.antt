@@ -2,3 +2,4 @@ pub mod OutsideLaws
 pub mod LinesLaws
 pub mod NumbersLaws
 pub mod HexLaws
+pub mod ReadingLaws

@@ -1,5 +1,7 @@
 -- Lines and words of bytes.
 use Rattle.std.specs.Prelude.{◌≡◌, ℕ, ◌+◌, ◌<◌, ◌==◌, Bool, List, [], ◌∷◌, ◌++◌, length, take, if◌then◌else◌, codes, Option, Some, None}
+use Rattle.std.specs.Borrow.{Bor}
+use Rattle.std.specs.Option.{option_copied}
 use Rattle.std.specs.List.{onto_first, slice_split, before_first, concat}
 use Rattle.std.specs.Str.{bytes_eq}
 
@@ -20,6 +22,11 @@ words_of text = slice_split (λ b. b == 32) text
 abbrev pub words_after : Option (List ℕ) → List (List ℕ)
 words_after None = []
 words_after (Some text) = words_of text
+
+-- the words of a line that isn't skipped, as its first and what follows, and those of a skipped one
+abbrev pub words_read : Option (Bor (List ℕ) × Option (Bor (List ℕ))) → List (List ℕ)
+words_read None = []
+words_read (Some said) = said.0.now ∷ words_after (option_copied said.1)
 
 -- just so many words
 abbrev pub one : List (List ℕ) → Option (List ℕ)

@@ -1,5 +1,6 @@
 -- The grammar of scripts. `None` is outside it.
-use Rattle.std.specs.Prelude.{◌≡◌, ℕ, ◌-◌, ◌==◌, nat_lt, nat_le, Bool, true, false, not, ◌&&◌, is_ok, if◌then◌else◌, List, [], ◌∷◌, length, codes, Option, Some, None, Result, Ok, Err}
+use Rattle.std.specs.Prelude.{◌≡◌, ℕ, ◌-◌, ◌<◌, ◌==◌, nat_lt, nat_le, Bool, true, false, not, ◌&&◌, is_ok, if◌then◌else◌, List, [], ◌∷◌, length, codes, Option, Some, None, Result, Ok, Err}
+use Rattle.std.specs.Borrow.{Bor}
 use Rattle.std.specs.Str.{is_utf8, bytes_eq}
 use Rattle.mdc_types.specs.Geometry.{geometry_of}
 use Rattle.mdc_types.specs.declared.events.Event.{Event}
@@ -11,7 +12,7 @@ use Rattle.script_text.specs.declared.faults.ScriptEnd.{ScriptEnd}
 use Rattle.script_text.specs.declared.faults.ScriptEnd.TheVariants.{Fault, Memory}
 use Rattle.script_text.specs.declared.faults.ScriptFault.{ScriptFault}
 use Rattle.script_text.specs.declared.faults.FaultKind.TheVariants as kinds
-use Rattle.script_text.specs.Lines.{lines_of, text_of, words_of, script_limit, two, three, four}
+use Rattle.script_text.specs.Lines.{lines_of, text_of, words_of, script_limit, words_read, two, three, four}
 use Rattle.script_text.specs.Numbers.{◌>>=◌, guarded, number_of, byte_of, value_of}
 
 pub record ScriptValue : Type 0 where
@@ -120,6 +121,12 @@ words_said (b ∷ text) = if b == 35 then [] else words_of (b ∷ text)
 -- The words of a line whose text is UTF-8, and which the script has room for.
 abbrev pub said_by : ℕ → List ℕ → Option (List (List ℕ))
 said_by room line = guarded (nat_le (length line) room && is_utf8 (text_of line)) (words_said (text_of line))
+
+-- What a reader found of the first line of the bytes: what it says, and what is left after it.
+abbrev pub ReadsLine : List ℕ → ℕ → Option (Option (Bor (List ℕ) × Option (Bor (List ℕ))) × Bor (List ℕ) × ℕ) → Type 0
+ReadsLine bytes room None = (line rest : List ℕ) × (lines_of bytes ≡ line ∷ lines_of rest) × (said_by room line ≡ None)
+ReadsLine bytes room (Some x) = (line : List ℕ) × (lines_of bytes ≡ line ∷ lines_of x.1.now) × (said_by room line ≡ Some (words_read x.0))
+    × (x.2 ≡ room - length line) × (length x.1.now < length bytes)
 
 abbrev pub is_end : List ℕ → List (List ℕ) → Bool
 is_end word [] = bytes_eq word (codes "end")
