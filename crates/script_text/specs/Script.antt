@@ -169,15 +169,30 @@ script_in room (line ∷ lines) =
 abbrev pub script_of : List ℕ → Option ScriptValue
 script_of bytes = script_in script_limit (lines_of bytes)
 
+-- What a reader found of the header: the array, and what is left after its line.
+abbrev pub ReadsStart : List ℕ → Option (Start × Bor (List ℕ) × ℕ) → Type 0
+ReadsStart bytes None = script_of bytes ≡ None
+ReadsStart bytes (Some x) = script_of bytes ≡ with_lines (Some x.0) (body_of x.2 (lines_of x.1.now))
+
 -- the bytes are in the grammar, and the script is this one
 abbrev pub IsScript : List ℕ → ScriptValue → Type 0
 IsScript bytes script = script_of bytes ≡ Some script
 
--- the fault of bytes that are outside the grammar
-abbrev pub fault_of : List ℕ → ScriptFault
-fault_of bytes = record { line = 1; kind = kinds.Word }
+-- the fault of what is outside the grammar
+abbrev pub outside : ScriptFault
+outside = record { line = 1; kind = kinds.Word }
 
--- what reading answers, but for want of memory
+-- A reader answers what is there, seen by view, and else the fault, but for want of memory.
+abbrev pub Gives : {X Y : Type 0} → (X → Y) → Result X ScriptEnd → Option Y → Type 0
+Gives view (Ok x) there = there ≡ Some (view x)
+Gives view (Err (Fault fault)) there = (there ≡ None) × (fault ≡ outside)
+Gives view (Err Memory) there = Unit {0}
+
+-- the first line outside the grammar, and what is wrong with it
+abbrev pub fault_of : List ℕ → ScriptFault
+fault_of bytes = outside
+
+-- what reading the bytes answers
 abbrev pub Reads : Result ScriptValue ScriptEnd → List ℕ → Type 0
 Reads (Ok script) bytes = IsScript bytes script
 Reads (Err (Fault fault)) bytes = (script_of bytes ≡ None) × (fault ≡ fault_of bytes)
