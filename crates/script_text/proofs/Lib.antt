@@ -3,3 +3,4 @@ pub mod LinesLaws
 pub mod NumbersLaws
 pub mod HexLaws
 pub mod ReadingLaws
+pub mod GrammarLaws
