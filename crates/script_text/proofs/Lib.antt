@@ -4,3 +4,4 @@ pub mod NumbersLaws
 pub mod HexLaws
 pub mod ReadingLaws
 pub mod GrammarLaws
+pub mod InputLaws

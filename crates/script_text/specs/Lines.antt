@@ -58,10 +58,14 @@ abbrev pub through_end : List (List ℕ) → List (List ℕ)
 through_end [] = []
 through_end (line ∷ lines) = if bytes_eq line (codes "end" ++ 10 ∷ []) then line ∷ [] else line ∷ through_end lines
 
+-- the bytes of those lines
+abbrev pub up_to_end : List ℕ → List ℕ
+up_to_end bytes = concat (through_end (lines_of bytes))
+
 -- the most bytes that a script holds
 abbrev pub script_limit : ℕ
 script_limit = 16777216
 
 -- What is read as a script: up to the line feed of the first line `end`, and never more than one byte over the limit.
 abbrev pub input_part : List ℕ → List ℕ
-input_part bytes = take (script_limit + 1) (concat (through_end (lines_of bytes)))
+input_part bytes = take (script_limit + 1) (up_to_end bytes)

@@ -1,7 +1,8 @@
-ghost use Rattle.std.specs.Prelude.{◌≡◌, ◌<◌, ◌≤◌, ◌+◌, IfOk, IfSome, OnErr, Err, vec_len};
-ghost use Rattle.mdc_types.specs.Faults.{Rose};
+ghost use Rattle.std.specs.Prelude.{◌≡◌, ◌<◌, ◌≤◌, ◌+◌, Ok, Err, None, IfOk, IfSome, OnErr, vec_len};
+ghost use Rattle.std.specs.Option.{option_to_list};
+ghost use Rattle.mdc_types.specs.Faults.{Rose, HasCause};
 ghost use Rattle.script_text.specs.Lines.{input_part, script_limit};
-ghost use Rattle.script_text.specs.Outside.{with_front, TookOfPart};
+ghost use Rattle.script_text.specs.Outside.{with_front, IsAtEnd, TookOfPart};
 ghost use Rattle.script_text.specs.declared.input.InputEnd.TheVariants.{Memory, Failed as read_failed};
 
 use crate::Source;
@@ -35,6 +36,20 @@ impl<T: Drop> From<AllocFailed<T>> for InputEnd {
 
 const END_LINE: &[u8] = b"end\n";
 
+// The next byte, or nothing at the end of the input.
+fn next_byte<S: Source>(source: &mut S) -> Result<Option<u8>, Failed>
+    ensures taken { IfOk result (λ byte. S.left source.old ≡ with_front (option_to_list byte) (S.left source.new)) }
+    ensures end { result ≡ Ok None → IsAtEnd (S.left source.old) }
+    ensures err { OnErr result (S.left source.new ≡ S.left source.old) }
+    ensures cause { HasCause (S.faults source.old) (S.faults source.new) result }
+{
+    let mut buf = [0];
+    if source.read(&mut buf)? == 0 {
+        return Ok(None);
+    }
+    Ok(Some(buf[0]))
+}
+
 /// Takes a script from the source, one byte a call: the bytes up to the line feed of the first line
 /// `end`, or up to the end of the input, or up to one byte over what a script may hold. What follows
 /// stays in the source.
@@ -53,14 +68,13 @@ pub fn read_input<S: Source>(alloc: Global, source: &mut S) -> Result<Vec<u8>, I
     let mut bytes = Vec::new(alloc);
     let mut line_start = 0;
     while bytes.len() <= SCRIPT_LIMIT {
-        let mut next = [0];
-        if source.read(&mut next)? == 0 {
-            break;
-        }
-        bytes.push(next[0])?;
-        if next[0] == b'\n' {
+        let Some(byte) = next_byte(source)? else {
+            return Ok(bytes);
+        };
+        bytes.push(byte)?;
+        if byte == b'\n' {
             if &bytes[line_start..] == END_LINE {
-                break;
+                return Ok(bytes);
             }
             line_start = bytes.len();
         }
