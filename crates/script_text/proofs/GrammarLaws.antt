@@ -11,7 +11,8 @@ use Rattle.script_text.specs.declared.script.Start.{Start}
 use Rattle.script_text.specs.declared.script.Line.{Line}
 use Rattle.script_text.specs.declared.script.Line.TheVariants as line_kinds
 use Rattle.script_text.specs.Lines.{lines_of, script_limit, two, three, four}
-use Rattle.script_text.specs.Numbers.{◌>>=◌, guarded, number_of, byte_of, value_of}
+use Rattle.script_text.specs.Steps.{◌>>=◌, guarded}
+use Rattle.script_text.specs.Numbers.{number_of, byte_of, value_of}
 use Rattle.script_text.specs.Script.{ScriptValue, is_start, warm_with, warm_start, start_of, is_line_event, is_event_line, ask_write, out_write, end_write, ask_read, in_read, event_of, line_of, said_by, is_end, onto_lines, with_lines, line_then, body_of, header_then, script_in, IsScript}
 
 bind_some : {A B : Type 0} (o : Option A) (f : A → Option B) (y : B) → (o >>= f) ≡ Some y → (x : A) × (o ≡ Some x) × (f x ≡ Some y)
@@ -112,9 +113,9 @@ line_then_are (Some (word ∷ args)) later lines f is =
     chosen (is_end word args) _ _ (Some lines) _ is
     (λ is. subst AreEvents (some_same is) tt)
     (λ is.
-        let first = bind_some (line_of word args) _ lines is in
-        let others = bind_some later _ lines first.2 in
-        subst AreEvents (some_same others.2) (line_is word args first.0 first.1, f others.0 others.1))
+    let first = bind_some (line_of word args) _ lines is in
+    let others = bind_some later _ lines first.2 in
+    subst AreEvents (some_same others.2) (line_is word args first.0 first.1, f others.0 others.1))
 
 pub body_are : (room : ℕ) (lines : List (List ℕ)) (ls : List Line) → body_of room lines ≡ Some ls → AreEvents ls
 body_are room [] ls is = cc
@@ -143,7 +144,7 @@ script_in_is : (room : ℕ) (lines : List (List ℕ)) (s : ScriptValue) → scri
 script_in_is room [] s is = cc
 script_in_is room (line ∷ lines) s is =
     header_then_is (said_by room line) (script_in (room - length line) lines) (body_of (room - length line) lines) s
-      (script_in_is (room - length line) lines) (body_are (room - length line) lines) is
+    (script_in_is (room - length line) lines) (body_are (room - length line) lines) is
 
 -- each script is an array of one node, and lines of its events
 pub script_is : (bytes : List ℕ) (s : ScriptValue) → IsScript bytes s → IsWhole s

@@ -5,7 +5,8 @@ use Rattle.std.proofs.lemmas.List.{append-nil, append_assoc, drop_more, drop_all
 use Rattle.std.specs.Prelude.{codes}
 use Rattle.std.specs.Option.{option_map}
 use Rattle.std.specs.Str.{bytes_eq}
-use Rattle.script_text.specs.Numbers.{hex_digit, hex_byte, onto_bytes, hex_bytes, guarded, fits_sector, sector_of, value_of, ◌>>=◌}
+use Rattle.script_text.specs.Numbers.{hex_digit, hex_byte, onto_bytes, hex_bytes, fits_sector, sector_of, value_of}
+use Rattle.script_text.specs.Steps.{guarded, ◌>>=◌}
 
 -- bytes that were read, and those that are still to be read
 abbrev pub onto_front : List ℕ → Option (List ℕ) → Option (List ℕ)
@@ -33,7 +34,7 @@ pub hex_stops : (front digits : List ℕ) (i : ℕ) (whole : Option (List ℕ)) 
     → whole ≡ onto_front front (hex_bytes (drop (2 * i) digits)) → None ≡ hex_digit (get_or digits (2 * i) 0) → whole ≡ None
 hex_stops front digits i whole lt is none =
     is ∙ ap (onto_front front) (hex_next digits i lt
-        ∙ ap (λ h. onto_bytes (hex_byte h (hex_digit (get_or digits (2 * i + 1) 0))) (hex_bytes (drop (2 * (i + 1)) digits))) (sym none))
+    ∙ ap (λ h. onto_bytes (hex_byte h (hex_digit (get_or digits (2 * i + 1) 0))) (hex_bytes (drop (2 * (i + 1)) digits))) (sym none))
 
 pub hex_goes_on : (bytes digits : List ℕ) (i high low : ℕ) (whole : Option (List ℕ)) → i < length bytes → 2 * i + 1 < length digits
     → whole ≡ onto_front (take i bytes) (hex_bytes (drop (2 * i) digits))
@@ -42,9 +43,9 @@ pub hex_goes_on : (bytes digits : List ℕ) (i high low : ℕ) (whole : Option (
 hex_goes_on bytes digits i high low whole within lt is h l =
     let later = hex_bytes (drop (2 * (i + 1)) digits) in
     is ∙ (ap (onto_front (take i bytes)) (hex_next digits i lt ∙ ap (λ d. onto_bytes (hex_byte d (hex_digit (get_or digits (2 * i + 1) 0))) later) (sym h)
-            ∙ ap (λ d. onto_bytes (hex_byte (Some high) d) later) (sym l))
-        ∙ (onto_front-onto_bytes (take i bytes) (16 * high + low) later
-            ∙ ap (λ front. onto_front front later) (sym (take_more_set bytes i (16 * high + low) within))))
+    ∙ ap (λ d. onto_bytes (hex_byte (Some high) d) later) (sym l))
+    ∙ (onto_front-onto_bytes (take i bytes) (16 * high + low) later
+    ∙ ap (λ front. onto_front front later) (sym (take_more_set bytes i (16 * high + low) within))))
 
 filled : (k n : ℕ) (bytes : List ℕ) → drop n bytes ≡ drop n (replicate k 0) → bytes ≡ take n bytes ++ replicate (k - n) 0
 filled k n bytes is = sym (take-append-drop n bytes) ∙ ap (λ rest. take n bytes ++ rest) (is ∙ drop-replicate n k 0)
@@ -66,11 +67,11 @@ hex_length [] bytes is = let e : [] ≡ bytes = cc in omega (arith, ap length e)
 hex_length (d ∷ []) bytes is = cc
 hex_length (d ∷ e ∷ digits) bytes is = hex_length_more d e digits (hex_byte (hex_digit d) (hex_digit e)) (hex_bytes digits) bytes is (hex_length digits)
   where
-  hex_length_more : (d e : ℕ) (digits : List ℕ) (byte : Option ℕ) (later : Option (List ℕ)) (bytes : List ℕ) → onto_bytes byte later ≡ Some bytes
-      → ((rest : List ℕ) → later ≡ Some rest → length digits ≡ 2 * length rest) → length (d ∷ e ∷ digits) ≡ 2 * length bytes
-  hex_length_more d e digits None later bytes is f = cc
-  hex_length_more d e digits (Some b) None bytes is f = cc
-  hex_length_more d e digits (Some b) (Some rest) bytes is f = let e : b ∷ rest ≡ bytes = cc in omega (arith, f rest refl, ap length e)
+    hex_length_more : (d e : ℕ) (digits : List ℕ) (byte : Option ℕ) (later : Option (List ℕ)) (bytes : List ℕ) → onto_bytes byte later ≡ Some bytes
+        → ((rest : List ℕ) → later ≡ Some rest → length digits ≡ 2 * length rest) → length (d ∷ e ∷ digits) ≡ 2 * length bytes
+    hex_length_more d e digits None later bytes is f = cc
+    hex_length_more d e digits (Some b) None bytes is f = cc
+    hex_length_more d e digits (Some b) (Some rest) bytes is f = let e : b ∷ rest ≡ bytes = cc in omega (arith, f rest refl, ap length e)
 
 -- so many digits write no value
 abbrev pub IsNoLength : ℕ → Type 0

@@ -35,9 +35,9 @@ lines_at_feed (b ∷ text) rest t =
 -- a line that goes on
 lines_some : (b : ℕ) (bytes : List ℕ) → (line : List ℕ) × (lines : List (List ℕ)) × (lines_of (b ∷ bytes) ≡ line ∷ lines)
 lines_some b [] = elim (b == 10) as (λ v. (line : List ℕ) × (lines : List (List ℕ)) × (cond v ((b ∷ []) ∷ []) ((b ∷ []) ∷ []) ≡ line ∷ lines)) [
-    | true ↦ (b ∷ [], [], refl)
-    | false ↦ (b ∷ [], [], refl)
-  ]
+  | true ↦ (b ∷ [], [], refl)
+  | false ↦ (b ∷ [], [], refl)
+]
 lines_some b (c ∷ bytes) =
     let s = lines_some c bytes in
     elim (b == 10) as (λ v. (line : List ℕ) × (lines : List (List ℕ)) × (cond v ((b ∷ []) ∷ lines_of (c ∷ bytes)) (onto_first b (lines_of (c ∷ bytes))) ≡ line ∷ lines)) [
@@ -114,8 +114,8 @@ module _ (bytes : List ℕ) (start : ℕ) (o : IsOpen bytes start) where
   pub at_line : bytes_eq (drop start bytes ++ 10 ∷ []) end_line ≡ false → (rest : List ℕ) → up_to_end ((bytes ++ 10 ∷ []) ++ rest) ≡ (bytes ++ 10 ∷ []) ++ up_to_end rest
   at_line other rest =
       push_goes_on 10 rest ∙ (ap (λ xs. take start bytes ++ xs) (line_read (drop start bytes) rest o.text other)
-        ∙ (ap (λ xs. take start bytes ++ xs) (append_assoc (drop start bytes) (10 ∷ []) (up_to_end rest))
-          ∙ (rejoined bytes start (10 ∷ up_to_end rest) ∙ sym (append_assoc bytes (10 ∷ []) (up_to_end rest)))))
+      ∙ (ap (λ xs. take start bytes ++ xs) (append_assoc (drop start bytes) (10 ∷ []) (up_to_end rest))
+      ∙ (rejoined bytes start (10 ∷ up_to_end rest) ∙ sym (append_assoc bytes (10 ∷ []) (up_to_end rest)))))
 
   pub at_end : bytes_eq (drop start bytes ++ 10 ∷ []) end_line ≡ true → (rest : List ℕ) → up_to_end ((bytes ++ 10 ∷ []) ++ rest) ≡ bytes ++ 10 ∷ []
   at_end last rest =
@@ -149,11 +149,11 @@ module _ (bytes : List ℕ) (start : ℕ) (o : IsOpen bytes start) where
         | true ↦ λ t.
             let e : 10 ≡ b = grind (arith, nat_tests) in
             subst (λ n. (more : List ℕ) × (up_to_end ((bytes ++ n ∷ []) ++ rest) ≡ (bytes ++ n ∷ []) ++ more)) e
-              (elim (bytes_eq (drop start bytes ++ 10 ∷ []) end_line) as (λ v. bytes_eq (drop start bytes ++ 10 ∷ []) end_line ≡ v
-                  → (more : List ℕ) × (up_to_end ((bytes ++ 10 ∷ []) ++ rest) ≡ (bytes ++ 10 ∷ []) ++ more)) [
-                | true ↦ λ last. ([], at_end last rest ∙ sym (append-nil (bytes ++ 10 ∷ [])))
-                | false ↦ λ other. (up_to_end rest, at_line other rest)
-              ] refl)
+            (elim (bytes_eq (drop start bytes ++ 10 ∷ []) end_line) as (λ v. bytes_eq (drop start bytes ++ 10 ∷ []) end_line ≡ v
+            → (more : List ℕ) × (up_to_end ((bytes ++ 10 ∷ []) ++ rest) ≡ (bytes ++ 10 ∷ []) ++ more)) [
+              | true ↦ λ last. ([], at_end last rest ∙ sym (append-nil (bytes ++ 10 ∷ [])))
+              | false ↦ λ other. (up_to_end rest, at_line other rest)
+            ] refl)
         | false ↦ λ t. begins (bytes ++ b ∷ []) start (open_more b t) rest
       ] refl
 
@@ -161,7 +161,7 @@ module _ (bytes : List ℕ) (start : ℕ) (o : IsOpen bytes start) where
   pub part_at_end : length bytes ≤ script_limit + 1 → input_part bytes ≡ bytes
   part_at_end few =
       ap (take (script_limit + 1)) (ap up_to_end (sym (append-nil bytes)) ∙ (o.goes_on [] ∙ (ap (λ xs. take start bytes ++ xs)
-          (ap up_to_end (append-nil (drop start bytes)) ∙ text_read (drop start bytes) o.text) ∙ take-append-drop start bytes)))
+      (ap up_to_end (append-nil (drop start bytes)) ∙ text_read (drop start bytes) o.text) ∙ take-append-drop start bytes)))
       ∙ take_all (script_limit + 1) bytes few
 
   pub part_full : length bytes ≡ script_limit + 1 → (rest : List ℕ) → input_part (bytes ++ rest) ≡ bytes
@@ -180,8 +180,8 @@ took_is old None bytes is few f = subst (λ o. TookOfPart o None) (sym is) refl
 took_is old (Some rest) bytes is few f =
     let b = f rest in
     let front : take (length bytes) (input_part (bytes ++ rest)) ≡ bytes =
-        ap (λ xs. take (length bytes) (take (script_limit + 1) xs)) b.1
-        ∙ (take-take (length bytes) (script_limit + 1) (bytes ++ b.0) few ∙ take_at bytes b.0 (length bytes) refl) in
+    ap (λ xs. take (length bytes) (take (script_limit + 1) xs)) b.1
+    ∙ (take-take (length bytes) (script_limit + 1) (bytes ++ b.0) few ∙ take_at bytes b.0 (length bytes) refl) in
     subst (λ o. TookOfPart o (Some rest)) (sym is) (length bytes, ap (λ xs. Some (xs ++ rest)) (sym front))
 
 pub taken_more : (old mid new : Option (List ℕ)) (bytes : List ℕ) (given : Option ℕ) (byte : ℕ) → old ≡ with_front bytes mid → mid ≡ with_front (option_to_list given) new → given ≡ Some byte
@@ -193,8 +193,8 @@ pub part_at_last : (old mid : Option (List ℕ)) (bytes : List ℕ) → old ≡ 
 part_at_last old None bytes is last whole = part_is old None bytes is (λ rest e. cc)
 part_at_last old (Some left) bytes is last whole =
     part_is old (Some left) bytes is (λ rest e.
-      let none : rest ≡ [] = cc in
-      ap (λ r. input_part (bytes ++ r)) none ∙ (ap input_part (append-nil bytes) ∙ whole))
+    let none : rest ≡ [] = cc in
+    ap (λ r. input_part (bytes ++ r)) none ∙ (ap input_part (append-nil bytes) ∙ whole))
 
 -- the test of the line that ends in a line feed
 pub tested : (bytes items : List ℕ) (start byte : ℕ) (v : Bool) → start ≤ length bytes → items ≡ bytes ++ byte ∷ [] → byte ≡ 10

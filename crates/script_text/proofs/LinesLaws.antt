@@ -4,7 +4,8 @@ use Rattle.std.proofs.lemmas.List.{take_all, drop_all, take_rest, length-take, l
 use Rattle.std.proofs.lemmas.List.Sums.{prefix_len-le-length}
 use Rattle.std.proofs.lemmas.Bool.Decides.{nat_tests}
 use Rattle.std.specs.List.{onto_first, position_or_len, position}
-use Rattle.script_text.specs.Lines.{lines_of, text_of, words_of, words_after, one, BeginsWithLine}
+use Rattle.script_text.specs.Lines.{lines_of, text_of, words_of, words_after, one}
+use Rattle.script_text.specs.Reading.{BeginsWithLine}
 use Rattle.std.specs.Borrow.{Bor}
 use Rattle.std.specs.Option.{option_copied}
 use Rattle.std.specs.Prelude.{is_some}
@@ -21,8 +22,8 @@ pub lines_first : (bytes : List ℕ) → feed bytes < length bytes → lines_of 
 lines_first [] lt = absurd (omega arith)
 lines_first (b ∷ bytes) lt =
     elim (b == 10) as (λ v. cond (not v) (1 + feed bytes) 0 < suc (length bytes)
-        → cond v ((b ∷ []) ∷ lines_of bytes) (onto_first b (lines_of bytes))
-        ≡ take (cond (not v) (1 + feed bytes) 0 + 1) (b ∷ bytes) ∷ lines_of (drop (cond (not v) (1 + feed bytes) 0 + 1) (b ∷ bytes))) [
+    → cond v ((b ∷ []) ∷ lines_of bytes) (onto_first b (lines_of bytes))
+    ≡ take (cond (not v) (1 + feed bytes) 0 + 1) (b ∷ bytes) ∷ lines_of (drop (cond (not v) (1 + feed bytes) 0 + 1) (b ∷ bytes))) [
       | true ↦ λ lt. refl
       | false ↦ λ lt. let e : 1 + feed bytes + 1 ≡ suc (feed bytes + 1) = omega arith in rw e (ap (onto_first b) (lines_first bytes (omega arith)))
     ] lt
@@ -31,7 +32,7 @@ pub text_first : (bytes : List ℕ) → feed bytes < length bytes → text_of (t
 text_first [] lt = absurd (omega arith)
 text_first (b ∷ bytes) lt =
     elim (b == 10) as (λ v. b == 10 ≡ v → cond (not v) (1 + feed bytes) 0 < suc (length bytes)
-        → text_of (take (cond (not v) (1 + feed bytes) 0 + 1) (b ∷ bytes)) ≡ take (cond (not v) (1 + feed bytes) 0) (b ∷ bytes)) [
+    → text_of (take (cond (not v) (1 + feed bytes) 0 + 1) (b ∷ bytes)) ≡ take (cond (not v) (1 + feed bytes) 0) (b ∷ bytes)) [
       | true ↦ λ t lt. rw t refl
       | false ↦ λ t lt.
           let e : 1 + feed bytes + 1 ≡ suc (feed bytes + 1) = omega arith in
@@ -49,7 +50,7 @@ lines_only (b ∷ []) some is =
     ] is
 lines_only (b ∷ c ∷ bytes) some is =
     elim (b == 10) as (λ v. cond (not v) (1 + feed (c ∷ bytes)) 0 ≡ suc (length (c ∷ bytes))
-        → cond v ((b ∷ []) ∷ lines_of (c ∷ bytes)) (onto_first b (lines_of (c ∷ bytes))) ≡ (b ∷ c ∷ bytes) ∷ []) [
+    → cond v ((b ∷ []) ∷ lines_of (c ∷ bytes)) (onto_first b (lines_of (c ∷ bytes))) ≡ (b ∷ c ∷ bytes) ∷ []) [
       | true ↦ λ is. absurd (omega (arith, is))
       | false ↦ λ is. ap (onto_first b) (lines_only (c ∷ bytes) (omega arith) (omega (arith, is)))
     ] is
@@ -108,7 +109,7 @@ pub words_only : (text : List ℕ) → space text ≡ length text → words_of t
 words_only [] is = refl
 words_only (b ∷ text) is =
     elim (b == 32) as (λ v. cond (not v) (1 + space text) 0 ≡ suc (length text)
-        → cond v ([] ∷ words_of text) (onto_first b (words_of text)) ≡ (b ∷ text) ∷ []) [
+    → cond v ([] ∷ words_of text) (onto_first b (words_of text)) ≡ (b ∷ text) ∷ []) [
       | true ↦ λ is. absurd (omega (arith, is))
       | false ↦ λ is. ap (onto_first b) (words_only text (omega (arith, is)))
     ] is

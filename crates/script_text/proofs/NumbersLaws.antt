@@ -7,7 +7,8 @@ use Rattle.std.specs.Char.{is_ascii_digit}
 use Rattle.std.specs.Result.{OkIff, result_ok}
 use Rattle.std.specs.Str.{all_ascii_digits}
 use Rattle.std.specs.Str.Parse.{ParsesUnsigned}
-use Rattle.script_text.specs.Numbers.{decimal, is_numeral, number_of, guarded}
+use Rattle.script_text.specs.Numbers.{decimal, is_numeral, number_of}
+use Rattle.script_text.specs.Steps.{guarded}
 
 own : IsNumeralModel (λ ds. all_ascii_digits ds ≡ true) decimal
 own = numerals_by_weight _ tells_all_ascii_digits decimal (record { empty = refl; more = λ c cs r. refl })
@@ -23,9 +24,9 @@ read_as false n v (Err e) h = elim (nat_lt 0 n) as (λ s. None ≡ guarded ((s &
 read_as true n v (Err e) h =
     elim (nat_lt 0 n) as (λ s. nat_lt 0 n ≡ s → None ≡ guarded ((s && true) && nat_lt v (2 ^ 32)) v) [
       | true ↦ λ s. elim (nat_lt v (2 ^ 32)) as (λ t. nat_lt v (2 ^ 32) ≡ t → None ≡ guarded t v) [
-          | true ↦ λ t. absurd (h (refl, grind (arith, nat_tests), grind (arith, nat_tests)))
-          | false ↦ λ t. refl
-        ] refl
+        | true ↦ λ t. absurd (h (refl, grind (arith, nat_tests), grind (arith, nat_tests)))
+        | false ↦ λ t. refl
+      ] refl
       | false ↦ λ s. refl
     ] refl
 

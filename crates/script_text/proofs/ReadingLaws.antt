@@ -8,9 +8,10 @@ use Rattle.std.specs.Option.{option_copied}
 use Rattle.std.specs.Prelude.{is_some, codes}
 use Rattle.std.specs.Str.{IsUtf8, is_utf8, bytes_eq}
 use Rattle.std.proofs.lemmas.List.{append_assoc}
-use Rattle.script_text.specs.Numbers.{guarded}
-use Rattle.script_text.specs.Lines.{lines_of, text_of, BeginsWithLine, words_read, words_after}
-use Rattle.script_text.specs.Script.{said_by, words_said, ReadsLine, is_end, line_of, line_then, onto_lines, body_of}
+use Rattle.script_text.specs.Steps.{guarded}
+use Rattle.script_text.specs.Lines.{lines_of, text_of, words_after}
+use Rattle.script_text.specs.Reading.{BeginsWithLine, words_read, ReadsLine}
+use Rattle.script_text.specs.Script.{said_by, words_said, is_end, line_of, line_then, onto_lines, body_of}
 use Rattle.script_text.proofs.LinesLaws.{words_some}
 use Rattle.script_text.specs.declared.script.Line.{Line}
 
@@ -25,9 +26,12 @@ module _ {E : Type 0} (bytes text rest : List ℕ) (room : ℕ) (b : BeginsWithL
   pub wrong_text : (Q : E → Type 0) (r : Result (Bor (List ℕ)) E) → MatchResult r (λ s. (s.now ≡ text) × IsUtf8 text) (λ e. ¬ (IsUtf8 text) × Q e) → result_ok r ≡ None
       → ReadsLine bytes room None
   wrong_text Q (Ok s) h is = cc
-  wrong_text Q (Err e) h is =
-      (b.line, rest, b.lines,
-        rw (b.text_is, not_text text h.0) (elim (nat_le (length b.line) room) as (λ v. guarded (v && false) (words_said text) ≡ None) [ true ↦ refl | false ↦ refl ]))
+  wrong_text Q (Err e) h is = (
+    b.line,
+    rest,
+    b.lines,
+    rw (b.text_is, not_text text h.0) (elim (nat_le (length b.line) room) as (λ v. guarded (v && false) (words_said text) ≡ None) [ true ↦ refl | false ↦ refl ]),
+  )
 
   pub right_text : (Q : E → Type 0) (r : Result (Bor (List ℕ)) E) (s : Bor (List ℕ)) → MatchResult r (λ s. (s.now ≡ text) × IsUtf8 text) (λ e. ¬ (IsUtf8 text) × Q e) → result_ok r ≡ Some s
       → length bytes - length rest ≤ room → said_by room b.line ≡ Some (words_said s.now)
@@ -59,8 +63,8 @@ pub read_more : (whole : Option (List Line)) (front : List Line) (bytes : List �
     → whole ≡ after_lines (front ++ first ∷ []) (body_of left (lines_of after.now))
 read_more whole front bytes room word args after left first is r more there =
     is ∙ (ap (after_lines front)
-            (ap (body_of room) r.1
-              ∙ (ap (λ said. line_then said (body_of (room - length r.0) (lines_of after.now))) r.2
-                ∙ (ap (λ e. cond e (Some []) (onto_lines (line_of word.now (words_after (option_copied args))) (body_of (room - length r.0) (lines_of after.now)))) (sym more)
-                  ∙ (ap (λ l. onto_lines l (body_of (room - length r.0) (lines_of after.now))) (sym there) ∙ ap (λ n. onto_lines (Some first) (body_of n (lines_of after.now))) (sym r.3)))))
-        ∙ after_lines-onto_lines front first (body_of left (lines_of after.now)))
+    (ap (body_of room) r.1
+    ∙ (ap (λ said. line_then said (body_of (room - length r.0) (lines_of after.now))) r.2
+    ∙ (ap (λ e. cond e (Some []) (onto_lines (line_of word.now (words_after (option_copied args))) (body_of (room - length r.0) (lines_of after.now)))) (sym more)
+    ∙ (ap (λ l. onto_lines l (body_of (room - length r.0) (lines_of after.now))) (sym there) ∙ ap (λ n. onto_lines (Some first) (body_of n (lines_of after.now))) (sym r.3)))))
+    ∙ after_lines-onto_lines front first (body_of left (lines_of after.now)))

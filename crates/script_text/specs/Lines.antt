@@ -1,7 +1,5 @@
 -- Lines and words of bytes.
 use Rattle.std.specs.Prelude.{◌≡◌, ℕ, ◌+◌, ◌<◌, ◌==◌, Bool, List, [], ◌∷◌, ◌++◌, length, take, if◌then◌else◌, codes, Option, Some, None}
-use Rattle.std.specs.Borrow.{Bor}
-use Rattle.std.specs.Option.{option_copied}
 use Rattle.std.specs.List.{onto_first, slice_split, before_first, concat}
 use Rattle.std.specs.Str.{bytes_eq}
 
@@ -23,11 +21,6 @@ abbrev pub words_after : Option (List ℕ) → List (List ℕ)
 words_after None = []
 words_after (Some text) = words_of text
 
--- the words of a line that isn't skipped, as its first and what follows, and those of a skipped one
-abbrev pub words_read : Option (Bor (List ℕ) × Option (Bor (List ℕ))) → List (List ℕ)
-words_read None = []
-words_read (Some said) = said.0.now ∷ words_after (option_copied said.1)
-
 -- just so many words
 abbrev pub one : List (List ℕ) → Option (List ℕ)
 one (a ∷ []) = Some a
@@ -44,14 +37,6 @@ three words = None
 abbrev pub four : List (List ℕ) → Option (List ℕ × List ℕ × List ℕ × List ℕ)
 four (a ∷ b ∷ c ∷ d ∷ []) = Some (a, b, c, d)
 four words = None
-
--- the bytes are a line of this text, and then the rest
-pub record BeginsWithLine (bytes text rest : List ℕ) : Type 0 where
-  pub line : List ℕ
-  pub lines : lines_of bytes ≡ line ∷ lines_of rest
-  pub text_is : text_of line ≡ text
-  pub size : length line + length rest ≡ length bytes
-  pub some : 0 < length line
 
 -- the lines up to the first that is `end` and a line feed
 abbrev pub through_end : List (List ℕ) → List (List ℕ)

@@ -3,14 +3,7 @@ use Rattle.std.specs.Prelude.{ℕ, ◌+◌, ◌-◌, ◌*◌, ◌^◌, ◌==◌,
 use Rattle.std.specs.Char.{is_ascii_digit}
 use Rattle.std.specs.Str.{all_ascii_digits, bytes_eq}
 use Rattle.mdc_types.specs.declared.numbers.Sector.{Sector}
-
-infixl 10 ◌>>=◌
-abbrev pub ◌>>=◌ : {A B : Type 0} → Option A → (A → Option B) → Option B
-None >>= f = None
-(Some x) >>= f = f x
-
-abbrev pub guarded : {A : Type 0} → Bool → A → Option A
-guarded b x = if b then Some x else None
+use Rattle.script_text.specs.Steps.{◌>>=◌, guarded}
 
 -- what decimal digits write, each with the weight of its place
 abbrev pub decimal : List ℕ → ℕ

@@ -1,6 +1,5 @@
 -- The grammar of scripts. `None` is outside it.
 use Rattle.std.specs.Prelude.{◌≡◌, ℕ, ◌-◌, ◌<◌, ◌==◌, nat_lt, nat_le, Bool, true, false, not, ◌&&◌, is_ok, if◌then◌else◌, List, [], ◌∷◌, length, codes, Option, Some, None, Result, Ok, Err}
-use Rattle.std.specs.Borrow.{Bor}
 use Rattle.std.specs.Str.{is_utf8, bytes_eq}
 use Rattle.mdc_types.specs.Geometry.{geometry_of}
 use Rattle.mdc_types.specs.declared.events.Event.{Event}
@@ -12,8 +11,9 @@ use Rattle.script_text.specs.declared.faults.ScriptEnd.{ScriptEnd}
 use Rattle.script_text.specs.declared.faults.ScriptEnd.TheVariants.{Fault, Memory}
 use Rattle.script_text.specs.declared.faults.ScriptFault.{ScriptFault}
 use Rattle.script_text.specs.declared.faults.FaultKind.TheVariants as kinds
-use Rattle.script_text.specs.Lines.{lines_of, text_of, words_of, script_limit, words_read, two, three, four}
-use Rattle.script_text.specs.Numbers.{◌>>=◌, guarded, number_of, byte_of, value_of}
+use Rattle.script_text.specs.Steps.{◌>>=◌, guarded}
+use Rattle.script_text.specs.Lines.{lines_of, text_of, words_of, script_limit, two, three, four}
+use Rattle.script_text.specs.Numbers.{number_of, byte_of, value_of}
 
 pub record ScriptValue : Type 0 where
   pub start : Start
@@ -122,12 +122,6 @@ words_said (b ∷ text) = if b == 35 then [] else words_of (b ∷ text)
 abbrev pub said_by : ℕ → List ℕ → Option (List (List ℕ))
 said_by room line = guarded (nat_le (length line) room && is_utf8 (text_of line)) (words_said (text_of line))
 
--- What a reader found of the first line of the bytes: what it says, and what is left after it.
-abbrev pub ReadsLine : List ℕ → ℕ → Option (Option (Bor (List ℕ) × Option (Bor (List ℕ))) × Bor (List ℕ) × ℕ) → Type 0
-ReadsLine bytes room None = (line rest : List ℕ) × (lines_of bytes ≡ line ∷ lines_of rest) × (said_by room line ≡ None)
-ReadsLine bytes room (Some x) = (line : List ℕ) × (lines_of bytes ≡ line ∷ lines_of x.1.now) × (said_by room line ≡ Some (words_read x.0))
-    × (x.2 ≡ room - length line) × (length x.1.now < length bytes)
-
 abbrev pub is_end : List ℕ → List (List ℕ) → Bool
 is_end word [] = bytes_eq word (codes "end")
 is_end word (arg ∷ args) = false
@@ -169,11 +163,6 @@ script_in room (line ∷ lines) =
 abbrev pub script_of : List ℕ → Option ScriptValue
 script_of bytes = script_in script_limit (lines_of bytes)
 
--- What a reader found of the header: the array, and what is left after its line.
-abbrev pub ReadsStart : List ℕ → Option (Start × Bor (List ℕ) × ℕ) → Type 0
-ReadsStart bytes None = script_of bytes ≡ None
-ReadsStart bytes (Some x) = script_of bytes ≡ with_lines (Some x.0) (body_of x.2 (lines_of x.1.now))
-
 -- the bytes are in the grammar, and the script is this one
 abbrev pub IsScript : List ℕ → ScriptValue → Type 0
 IsScript bytes script = script_of bytes ≡ Some script
@@ -181,12 +170,6 @@ IsScript bytes script = script_of bytes ≡ Some script
 -- the fault of what is outside the grammar
 abbrev pub outside : ScriptFault
 outside = record { line = 1; kind = kinds.Word }
-
--- A reader answers what is there, seen by view, and else the fault, but for want of memory.
-abbrev pub Gives : {X Y : Type 0} → (X → Y) → Result X ScriptEnd → Option Y → Type 0
-Gives view (Ok x) there = there ≡ Some (view x)
-Gives view (Err (Fault fault)) there = (there ≡ None) × (fault ≡ outside)
-Gives view (Err Memory) there = Unit {0}
 
 -- the first line outside the grammar, and what is wrong with it
 abbrev pub fault_of : List ℕ → ScriptFault

@@ -12,11 +12,7 @@ fn ask_write(args: Option<&str>) -> Option<Event>
     ensures { result ≡ ask_write (words_after (option_copied args.entry)) }
 {
     let (node, sector, value_word) = three(args)?;
-    Some(Event::AskWrite(
-        byte(node)?,
-        number(sector)?,
-        value(value_word)?,
-    ))
+    Some(Event::AskWrite(byte(node)?, number(sector)?, value(value_word)?))
 }
 
 fn out_write(args: Option<&str>) -> Option<Event>

@@ -24,4 +24,3 @@ pub use script::{Line, Script, Start};
 pub use sink::{Sink, write_all};
 pub use source::Source;
 pub use std_io::{StdSink, StdSource};
-

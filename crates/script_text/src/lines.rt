@@ -1,7 +1,8 @@
 ghost use Rattle.std.specs.Prelude.{◌≡◌, ◌==◌, ◌<◌, ◌∷◌, length, None};
 ghost use Rattle.std.specs.Option.{option_copied, option_map};
 ghost use Rattle.std.specs.List.{position};
-ghost use Rattle.script_text.specs.Lines.{BeginsWithLine, words_of, words_after, one, two, three, four};
+ghost use Rattle.script_text.specs.Lines.{words_of, words_after, one, two, three, four};
+ghost use Rattle.script_text.specs.Reading.{BeginsWithLine};
 
 fn line_feed(bytes: &[u8]) -> Option<usize>
     ensures { result ≡ position (λ b. b == 10) bytes.now }

@@ -2,8 +2,9 @@ ghost use Rattle.std.specs.Prelude.{◌≡◌, ◌<◌, true, false, is_ok, leng
 ghost use Rattle.std.specs.List.{AllByRecursion};
 ghost use Rattle.std.specs.Option.{option_copied};
 ghost use Rattle.mdc_types.specs.Geometry.{geometry_of};
-ghost use Rattle.script_text.specs.Lines.{lines_of, words_after, words_read};
-ghost use Rattle.script_text.specs.Script.{Gives, Reads, ReadsLine, ReadsStart, is_end, body_of, words_said, is_event_line};
+ghost use Rattle.script_text.specs.Lines.{lines_of, words_after};
+ghost use Rattle.script_text.specs.Script.{Reads, is_end, body_of, words_said, is_event_line};
+ghost use Rattle.script_text.specs.Reading.{words_read, ReadsLine, ReadsStart, Gives};
 
 use crate::events::line;
 use crate::header::start;
@@ -12,7 +13,7 @@ use crate::{FaultKind, Line, Script, ScriptEnd, ScriptFault, Start};
 use std::alloc::Global;
 
 /// The most bytes that a script holds, up to the line feed of its line `end`.
-pub const SCRIPT_LIMIT: usize = 16_777_216;
+pub(crate) const SCRIPT_LIMIT: usize = 16_777_216;
 
 const OUTSIDE: ScriptEnd = ScriptEnd::Fault(ScriptFault {
     line: 1,

@@ -1,9 +1,8 @@
-ghost use Rattle.std.specs.Prelude.{◌≡◌, ◌<◌, ◌≤◌};
+ghost use Rattle.std.specs.Prelude.{◌≡◌, IfOk};
 
 use crate::{Sink, Source};
 use mdc_types::Failed;
-use std::alloc::Global;
-use std::io;
+use std::alloc::{AllocError, Global};
 use std::io::{BufReader, Read, Write};
 
 /// A source over a reader of the system, as standard input, with a buffer. It doesn't tell what is
@@ -16,11 +15,13 @@ pub struct StdSource<R: Read> {
 
 impl<R: Read + Drop> StdSource<R> {
     /// Takes the memory for its buffer. Reads nothing yet.
-    pub fn new(alloc: Global, reader: R) -> io::Result<StdSource<R>> {
-        Ok(StdSource {
-            reader: BufReader::new(alloc, reader)?,
-            faults: 0,
-        })
+    pub fn new(alloc: Global, reader: R) -> Result<StdSource<R>, AllocError>
+        ensures { IfOk result (λ s. ⟦<StdSource<R> as Source>⟧.faults s ≡ 0) }
+    {
+        match BufReader::new(alloc, reader) {
+            Ok(reader) => Ok(StdSource { reader, faults: 0 }),
+            Err(_) => Err(AllocError),
+        }
     }
 }
 
@@ -51,7 +52,10 @@ pub struct StdSink<W: Write> {
 }
 
 impl<W: Write> StdSink<W> {
-    pub fn new(writer: W) -> StdSink<W> {
+    /// A sink over this writer.
+    pub fn new(writer: W) -> StdSink<W>
+        ensures { ⟦<StdSink<W> as Sink>⟧.faults result ≡ 0 }
+    {
         StdSink { writer, faults: 0 }
     }
 }

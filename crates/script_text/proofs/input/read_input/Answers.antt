@@ -34,17 +34,17 @@ returns-then-eq-clause-part g c =
     let items_is = c.in_ok-push.ensures.items ∙ ap (λ b. c.loop-source.bytes.items ++ b ∷ []) c.if-byte-eq10.true in
     let last = tested c.loop-source.bytes.items c.deref.result.now c.loop-source.line_start c.in-Some.byte _ i.line.within (c.deref.ensures.value ∙ c.in_ok-push.ensures.items) c.if-byte-eq10.true c.if-eq.ensures in
     part_is _ _ c.push.new.self.items (taken_more _ _ _ _ _ c.in-Some.byte i.taken c.in_ok-byte.ensures.taken c.in-Some.is ∙ ap (λ bytes. with_front bytes (g.S.Source.left c.next_byte.new.source)) (sym c.in_ok-push.ensures.items))
-      (λ rest is. part_ended _ _ items_is (at_end _ _ i.line last) (grind (arith, common_steps)) rest)
+    (λ rest is. part_ended _ _ items_is (at_end _ _ i.line last) (grind (arith, common_steps)) rest)
 
 pub returns-then-eq-clause-alone : goal.returns-then-eq-clause-alone
-returns-then-eq-clause-alone g c = 
+returns-then-eq-clause-alone g c =
     let i = c.loop-source.invariant in
     let items_is = c.in_ok-push.ensures.items ∙ ap (λ b. c.loop-source.bytes.items ++ b ∷ []) c.if-byte-eq10.true in
     let last = tested c.loop-source.bytes.items c.deref.result.now c.loop-source.line_start c.in-Some.byte _ i.line.within (c.deref.ensures.value ∙ c.in_ok-push.ensures.items) c.if-byte-eq10.true c.if-eq.ensures in
     part_alone _ (part_ended _ _ items_is (at_end _ _ i.line last) (grind (arith, common_steps)))
 
 pub loop-source-preserved-then-byte-eq10 : goal.loop-source-preserved-then-byte-eq10
-loop-source-preserved-then-byte-eq10 g c = 
+loop-source-preserved-then-byte-eq10 g c =
     let i = c.loop-source.invariant in
     let items_is = c.in_ok-push.ensures.items ∙ ap (λ b. c.loop-source.bytes.items ++ b ∷ []) c.if-byte-eq10.true in
     let other = tested c.loop-source.bytes.items c.deref.result.now c.loop-source.line_start c.in-Some.byte _ i.line.within (c.deref.ensures.value ∙ c.in_ok-push.ensures.items) c.if-byte-eq10.true c.if-eq.ensures in

@@ -11,7 +11,7 @@ loop-i-init c = record { read = sym (onto_front-nil (hex_bytes c.args.digits.now
 pub returns-in_err-high-clause-value : goal.returns-in_err-high-clause-value
 returns-in_err-high-clause-value c =
     rw c.from_residual.ensures
-      (hex_stops (take c.loop-i.i c.loop-i.bytes) c.args.digits.now c.loop-i.i (hex_bytes c.args.digits.now) (omega arith) c.loop-i.invariant.read c.in_err-high.ensures.value)
+    (hex_stops (take c.loop-i.i c.loop-i.bytes) c.args.digits.now c.loop-i.i (hex_bytes c.args.digits.now) (omega arith) c.loop-i.invariant.read c.in_err-high.ensures.value)
 
 pub loop-i-preserved : goal.loop-i-preserved
 loop-i-preserved c = record {

@@ -16,4 +16,4 @@ returns-then-digits-lt2 c =
 pub returns : goal.returns
 returns c =
     c.hex_sector.ensures ∙ (ap (λ digits. option_map sector_of (hex_bytes digits)) c.as_bytes-digits.ensures.value
-        ∙ value_taken c.args.word.now c.if-eq.ensures (omega arith) (omega arith))
+    ∙ value_taken c.args.word.now c.if-eq.ensures (omega arith) (omega arith))

@@ -1,7 +1,8 @@
 use Rattle.std.proofs.Common.{◌≡◌, List, Option, Some, sym, ◌∙◌, ap, subst}
 use Rattle.std.specs.Borrow.{Bor}
 use Rattle.script_text.specs.Lines.{lines_of}
-use Rattle.script_text.specs.Script.{body_of, ReadsLine}
+use Rattle.script_text.specs.Script.{body_of}
+use Rattle.script_text.specs.Reading.{ReadsLine}
 use Rattle.script_text.specs.declared.script.Line.{Line}
 use Rattle.script_text.proofs.ReadingLaws.{read_more, after_lines}
 use Rattle.script_text.proofs.reading.read_lines.Goals as goal

@@ -3,7 +3,8 @@ use Rattle.std.specs.Borrow.{Bor}
 use Rattle.script_text.specs.declared.script.Start.{Start}
 use Rattle.script_text.specs.declared.script.Line.{Line}
 use Rattle.script_text.specs.Lines.{lines_of}
-use Rattle.script_text.specs.Script.{ReadsStart, body_of, with_lines}
+use Rattle.script_text.specs.Script.{body_of, with_lines}
+use Rattle.script_text.specs.Reading.{ReadsStart}
 use Rattle.script_text.proofs.GrammarLaws.{IsWhole, script_is, start_array, start_nodes}
 use Rattle.script_text.proofs.reading.read_script.Goals as goal
 

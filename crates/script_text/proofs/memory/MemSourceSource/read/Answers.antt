@@ -10,7 +10,7 @@ given_is bytes copied buf at n fits is =
     let piece : copied ≡ take n (drop at bytes) = is ∙ ap (λ k. take k (drop at bytes)) width in
     let size : length copied ≡ n = ap length piece ∙ omega (arith, length-take n (drop at bytes), length-drop at bytes) in
     sym (ap (λ front. front ++ drop (at + n) bytes) (take_at copied (drop n buf) n size ∙ piece)
-        ∙ (ap (λ back. take n (drop at bytes) ++ back) (sym (drop-drop n at bytes)) ∙ take-append-drop n (drop at bytes)))
+    ∙ (ap (λ back. take n (drop at bytes) ++ back) (sym (drop-drop n at bytes)) ∙ take-append-drop n (drop at bytes)))
 
 pub returns-clause-given : goal.returns-clause-given
 returns-clause-given c =
@@ -18,4 +18,4 @@ returns-clause-given c =
     let n = c.min-n.result in
     let piece = c.copy_from_slice.ensures.after ∙ ap (λ bytes. take (at + n - at) (drop at bytes)) c.deref-2.ensures.value in
     ap Some (sym (ap (λ (s : MemInput). s.left) c.self.view_is)
-        ∙ given_is c.self.inside.bytes.items c.copy_from_slice.new.self c.args.buf.now at n (omega (arith, c.self.invariant)) piece)
+    ∙ given_is c.self.inside.bytes.items c.copy_from_slice.new.self c.args.buf.now at n (omega (arith, c.self.invariant)) piece)
