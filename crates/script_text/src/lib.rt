@@ -24,3 +24,6 @@ pub use script::{Line, Script, Start};
 pub use sink::{Sink, write_all};
 pub use source::Source;
 pub use std_io::{StdSink, StdSource};
+
+#[cfg(test)]
+mod tests;
