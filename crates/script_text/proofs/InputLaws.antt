@@ -1,7 +1,7 @@
 -- Reading up to the line `end`, a byte at a time.
-use Rattle.std.proofs.Common.{◌≡◌, ◌≢◌, ℕ, suc, ◌+◌, ◌-◌, ◌<◌, ◌≤◌, ◌==◌, Bool, true, false, not, cond, List, [], ◌∷◌, ◌++◌, length, take, drop, Option, Some, None, refl, ap, subst, sym, ◌∙◌, arith}
+use Rattle.std.proofs.Common.{◌≡◌, ℕ, suc, ◌+◌, ◌-◌, ◌≤◌, ◌==◌, Bool, true, false, not, cond, List, [], ◌∷◌, ◌++◌, length, take, drop, Option, Some, None, refl, ap, subst, sym, ◌∙◌, arith}
 use Rattle.std.proofs.lemmas.Bool.Decides.{nat_tests}
-use Rattle.std.proofs.lemmas.List.{append-nil, append_assoc, take_all, drop_all, take_at, take-append-le, drop-append-le, take-append-drop, length-append, length-drop, take-take, take_rest, length_push}
+use Rattle.std.proofs.lemmas.List.{append-nil, append_assoc, take_all, drop_all, take_at, take-append-le, drop-append-le, take-append-drop, take-take, take_rest, length_push}
 use Rattle.std.specs.Option.{option_to_list}
 use Rattle.script_text.proofs.OutsideLaws.{with_front-with_front}
 use Rattle.std.specs.Prelude.{codes, IfSome}
