@@ -9,11 +9,10 @@ use Rattle.mdc_types.specs.Geometry.{geometry_of}
 use Rattle.mdc_types.specs.declared.events.Event.{Event}
 use Rattle.script_text.specs.declared.script.Start.{Start}
 use Rattle.script_text.specs.declared.script.Line.{Line}
-use Rattle.script_text.specs.declared.script.Line.TheVariants as line_kinds
 use Rattle.script_text.specs.Lines.{lines_of, script_limit, two, three, four}
 use Rattle.script_text.specs.Steps.{◌>>=◌, guarded}
 use Rattle.script_text.specs.Numbers.{number_of, byte_of, value_of}
-use Rattle.script_text.specs.Script.{ScriptValue, is_start, warm_with, warm_start, start_of, is_line_event, is_event_line, ask_write, out_write, end_write, ask_read, in_read, event_of, line_of, said_by, is_end, onto_lines, with_lines, line_then, body_of, header_then, script_in, IsScript}
+use Rattle.script_text.specs.Script.{ScriptValue, is_start, warm_with, warm_start, start_of, is_line_event, is_event_line, ask_write, out_write, end_write, ask_read, in_read, event_of, line_of, said_by, is_end, with_lines, line_then, body_of, header_then, script_in, IsScript}
 
 bind_some : {A B : Type 0} (o : Option A) (f : A → Option B) (y : B) → (o >>= f) ≡ Some y → (x : A) × (o ≡ Some x) × (f x ≡ Some y)
 bind_some None f y is = cc

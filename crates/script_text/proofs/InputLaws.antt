@@ -1,7 +1,7 @@
 -- Reading up to the line `end`, a byte at a time.
-use Rattle.std.proofs.Common.{◌≡◌, ◌≢◌, ℕ, suc, ◌+◌, ◌-◌, ◌<◌, ◌≤◌, ◌==◌, Bool, true, false, not, cond, List, [], ◌∷◌, ◌++◌, length, take, drop, Option, Some, None, refl, ap, subst, sym, ◌∙◌, arith}
+use Rattle.std.proofs.Common.{◌≡◌, ℕ, suc, ◌+◌, ◌-◌, ◌≤◌, ◌==◌, Bool, true, false, not, cond, List, [], ◌∷◌, ◌++◌, length, take, drop, Option, Some, None, refl, ap, subst, sym, ◌∙◌, arith}
 use Rattle.std.proofs.lemmas.Bool.Decides.{nat_tests}
-use Rattle.std.proofs.lemmas.List.{append-nil, append_assoc, take_all, drop_all, take_at, take-append-le, drop-append-le, take-append-drop, length-append, length-drop, take-take, take_rest, length_push}
+use Rattle.std.proofs.lemmas.List.{append-nil, append_assoc, take_all, drop_all, take_at, take-append-le, drop-append-le, take-append-drop, take-take, take_rest, length_push}
 use Rattle.std.specs.Option.{option_to_list}
 use Rattle.script_text.proofs.OutsideLaws.{with_front-with_front}
 use Rattle.std.specs.Prelude.{codes, IfSome}
@@ -18,7 +18,7 @@ pub record IsText (text : List ℕ) : Type 0 where
 abbrev pub end_line : List ℕ
 end_line = codes "end" ++ 10 ∷ []
 
-IsText-tail : (b : ℕ) (text : List ℕ) → IsText (b ∷ text) → (b == 10 ≡ false) × IsText text
+pub IsText-tail : (b : ℕ) (text : List ℕ) → IsText (b ∷ text) → (b == 10 ≡ false) × IsText text
 IsText-tail b text t =
     elim (b == 10) as (λ v. b == 10 ≡ v → cond (not v) (1 + feed text) 0 ≡ suc (length text) → (b == 10 ≡ false) × IsText text) [
       | true ↦ λ e is. absurd (omega (arith, is))
@@ -26,7 +26,7 @@ IsText-tail b text t =
     ] refl t.is
 
 -- a line, and then a line feed
-lines_at_feed : (text rest : List ℕ) → IsText text → lines_of (text ++ 10 ∷ rest) ≡ (text ++ 10 ∷ []) ∷ lines_of rest
+pub lines_at_feed : (text rest : List ℕ) → IsText text → lines_of (text ++ 10 ∷ rest) ≡ (text ++ 10 ∷ []) ∷ lines_of rest
 lines_at_feed [] rest t = refl
 lines_at_feed (b ∷ text) rest t =
     let h = IsText-tail b text t in
@@ -76,10 +76,10 @@ text_begins text (b ∷ rest) t =
     (m.0, ap (λ lines. concat (through_end lines)) (lines_onto text (b ∷ rest) s.0 s.1 t s.2) ∙ m.1)
 
 -- a line that isn't the last, and the line `end`
-line_read : (text rest : List ℕ) → IsText text → bytes_eq (text ++ 10 ∷ []) end_line ≡ false → up_to_end (text ++ 10 ∷ rest) ≡ (text ++ 10 ∷ []) ++ up_to_end rest
+pub line_read : (text rest : List ℕ) → IsText text → bytes_eq (text ++ 10 ∷ []) end_line ≡ false → up_to_end (text ++ 10 ∷ rest) ≡ (text ++ 10 ∷ []) ++ up_to_end rest
 line_read text rest t other = ap (λ lines. concat (through_end lines)) (lines_at_feed text rest t) ∙ rw other refl
 
-end_read : (text rest : List ℕ) → IsText text → bytes_eq (text ++ 10 ∷ []) end_line ≡ true → up_to_end (text ++ 10 ∷ rest) ≡ text ++ 10 ∷ []
+pub end_read : (text rest : List ℕ) → IsText text → bytes_eq (text ++ 10 ∷ []) end_line ≡ true → up_to_end (text ++ 10 ∷ rest) ≡ text ++ 10 ∷ []
 end_read text rest t last = ap (λ lines. concat (through_end lines)) (lines_at_feed text rest t) ∙ rw last (append-nil (text ++ 10 ∷ []))
 
 -- The bytes so far end in a line that is open from start on, and reading goes on.

@@ -5,3 +5,4 @@ pub mod HexLaws
 pub mod ReadingLaws
 pub mod GrammarLaws
 pub mod InputLaws
+pub mod PartLaws

@@ -1,7 +1,7 @@
 -- What is taken or written in several calls.
-use Rattle.std.proofs.Common.{◌≡◌, ℕ, ◌+◌, ◌-◌, ◌≤◌, List, [], ◌∷◌, ◌++◌, length, take, drop, Option, Some, None, refl, ap, sym, ◌∙◌, arith}
+use Rattle.std.proofs.Common.{◌≡◌, ℕ, ◌+◌, ◌-◌, ◌≤◌, List, [], ◌++◌, length, take, drop, Option, Some, None, refl, ap, sym, ◌∙◌, arith}
 use Rattle.std.proofs.Math.Seq.{take-add}
-use Rattle.std.proofs.lemmas.List.{append_assoc, append-nil, length-drop, drop-drop, take_all, take_rest}
+use Rattle.std.proofs.lemmas.List.{append_assoc, append-nil, length-drop, drop-drop, take_rest}
 use Rattle.script_text.specs.Outside.{with_front, with_back}
 
 pub with_back-with_back : (written : Option (List ℕ)) (a b : List ℕ) → with_back (with_back written a) b ≡ with_back written (a ++ b)

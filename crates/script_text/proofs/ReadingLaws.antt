@@ -1,5 +1,5 @@
 -- What a line says.
-use Rattle.std.proofs.Common.{◌≡◌, ℕ, ◌+◌, ◌-◌, ◌<◌, ◌≤◌, nat_le, Bool, true, false, not, ◌&&◌, cond, List, [], ◌∷◌, ◌++◌, length, Option, Some, None, Result, Ok, Err, refl, ap, sym, ◌∙◌, arith}
+use Rattle.std.proofs.Common.{◌≡◌, ℕ, ◌-◌, ◌≤◌, nat_le, Bool, true, false, not, ◌&&◌, cond, List, [], ◌∷◌, ◌++◌, length, Option, Some, None, Result, Ok, Err, refl, ap, sym, ◌∙◌, arith}
 use Rattle.std.proofs.lemmas.Bool.Decides.{nat_tests}
 use Rattle.std.proofs.lemmas.Str.{IsUtf8-from_is_utf8, is_utf8-from_IsUtf8}
 use Rattle.std.specs.Borrow.{Bor}
@@ -9,8 +9,8 @@ use Rattle.std.specs.Prelude.{is_some, codes}
 use Rattle.std.specs.Str.{IsUtf8, is_utf8, bytes_eq}
 use Rattle.std.proofs.lemmas.List.{append_assoc}
 use Rattle.script_text.specs.Steps.{guarded}
-use Rattle.script_text.specs.Lines.{lines_of, text_of, words_after}
-use Rattle.script_text.specs.Reading.{BeginsWithLine, words_read, ReadsLine}
+use Rattle.script_text.specs.Lines.{lines_of, words_after}
+use Rattle.script_text.specs.Reading.{BeginsWithLine, ReadsLine}
 use Rattle.script_text.specs.Script.{said_by, words_said, is_end, line_of, line_then, onto_lines, body_of}
 use Rattle.script_text.proofs.LinesLaws.{words_some}
 use Rattle.script_text.specs.declared.script.Line.{Line}

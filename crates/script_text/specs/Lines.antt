@@ -1,9 +1,9 @@
 -- Lines and words of bytes.
-use Rattle.std.specs.Prelude.{◌≡◌, ℕ, ◌+◌, ◌<◌, ◌==◌, Bool, List, [], ◌∷◌, ◌++◌, length, take, if◌then◌else◌, codes, Option, Some, None}
+use Rattle.std.specs.Prelude.{ℕ, ◌+◌, ◌==◌, List, [], ◌∷◌, ◌++◌, take, if◌then◌else◌, codes, Option, Some, None}
 use Rattle.std.specs.List.{onto_first, slice_split, before_first, concat}
 use Rattle.std.specs.Str.{bytes_eq}
 
--- the lines, each with its line feed, which the last may lack
+-- the lines, each with its line feed, byte 10, which the last may lack
 abbrev pub lines_of : List ℕ → List (List ℕ)
 lines_of [] = []
 lines_of (b ∷ bytes) = if b == 10 then (b ∷ []) ∷ lines_of bytes else onto_first b (lines_of bytes)
@@ -12,7 +12,7 @@ lines_of (b ∷ bytes) = if b == 10 then (b ∷ []) ∷ lines_of bytes else onto
 abbrev pub text_of : List ℕ → List ℕ
 text_of line = before_first (λ b. b == 10) line
 
--- the words, each parted from the next by one space
+-- the words, each parted from the next by one space, byte 32
 abbrev pub words_of : List ℕ → List (List ℕ)
 words_of text = slice_split (λ b. b == 32) text
 
@@ -51,6 +51,6 @@ up_to_end bytes = concat (through_end (lines_of bytes))
 abbrev pub script_limit : ℕ
 script_limit = 16777216
 
--- What is read as a script: up to the line feed of the first line `end`, and never more than one byte over the limit.
+-- what is taken as a script: up to the line feed of the first line `end`, and at most one byte over the limit
 abbrev pub input_part : List ℕ → List ℕ
 input_part bytes = take (script_limit + 1) (up_to_end bytes)

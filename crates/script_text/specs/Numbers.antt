@@ -10,7 +10,7 @@ abbrev pub decimal : List ℕ → ℕ
 decimal [] = 0
 decimal (d ∷ digits) = (d - 48) * 10 ^ length digits + decimal digits
 
--- digits, of which 0 comes first only where it is alone
+-- digits, `0` to `9`, of which `0` comes first only where it is alone
 abbrev pub is_numeral : List ℕ → Bool
 is_numeral [] = false
 is_numeral (d ∷ []) = is_ascii_digit d
@@ -24,7 +24,7 @@ number_of word = guarded (is_numeral word && nat_lt (decimal word) (2 ^ 32)) (de
 abbrev pub byte_of : List ℕ → Option ℕ
 byte_of word = number_of word >>= λ n. guarded (nat_lt n 256) n
 
--- a lower-case hexadecimal digit
+-- a hexadecimal digit, `0` to `9` or `a` to `f`
 abbrev pub hex_digit : ℕ → Option ℕ
 hex_digit d =
     if nat_le 48 d && nat_le d 57 then Some (d - 48)
@@ -51,7 +51,7 @@ sector_of bytes = record { bytes = bytes ++ replicate (512 - length bytes) 0 }
 abbrev pub fits_sector : List ℕ → Bool
 fits_sector bytes = nat_lt 0 (length bytes) && nat_le (length bytes) 512
 
--- what a sector is to hold: `-` is the empty value
+-- what a sector is to hold: nothing but zeros at `-`, else the bytes of the digits and then zeros
 abbrev pub value_of : List ℕ → Option Sector
 value_of word =
     if bytes_eq word (codes "-") then Some (sector_of [])

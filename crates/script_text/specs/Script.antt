@@ -1,5 +1,5 @@
 -- The grammar of scripts. `None` is outside it.
-use Rattle.std.specs.Prelude.{◌≡◌, ℕ, ◌-◌, ◌<◌, ◌==◌, nat_lt, nat_le, Bool, true, false, not, ◌&&◌, is_ok, if◌then◌else◌, List, [], ◌∷◌, length, codes, Option, Some, None, Result, Ok, Err}
+use Rattle.std.specs.Prelude.{◌≡◌, ℕ, ◌-◌, ◌==◌, nat_le, Bool, true, false, ◌&&◌, is_ok, if◌then◌else◌, List, [], ◌∷◌, length, codes, Option, Some, None, Result, Ok, Err}
 use Rattle.std.specs.Str.{is_utf8, bytes_eq}
 use Rattle.mdc_types.specs.Geometry.{geometry_of}
 use Rattle.mdc_types.specs.declared.events.Event.{Event}
@@ -113,12 +113,12 @@ start_of word args = if bytes_eq word (codes "warm") then warm_start args else N
 
 -- The whole script.
 
--- an empty line and one that begins with `#` have no words
+-- an empty line, and one that begins with `#`, byte 35, are skipped: they have no words
 abbrev pub words_said : List ℕ → List (List ℕ)
 words_said [] = []
 words_said (b ∷ text) = if b == 35 then [] else words_of (b ∷ text)
 
--- The words of a line whose text is UTF-8, and which the script has room for.
+-- the words of a line that is UTF-8 and that the script has room for
 abbrev pub said_by : ℕ → List ℕ → Option (List (List ℕ))
 said_by room line = guarded (nat_le (length line) room && is_utf8 (text_of line)) (words_said (text_of line))
 
@@ -149,7 +149,7 @@ abbrev pub body_of : ℕ → List (List ℕ) → Option (List Line)
 body_of room [] = None
 body_of room (line ∷ lines) = line_then (said_by room line) (body_of (room - length line) lines)
 
--- a line that may be the header; what follows is read from there, or after it
+-- a line that is skipped, or the header: what follows is the same, or the lines after the header
 abbrev pub header_then : Option (List (List ℕ)) → Option ScriptValue → Option (List Line) → Option ScriptValue
 header_then None later body = None
 header_then (Some []) later body = later

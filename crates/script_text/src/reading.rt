@@ -1,9 +1,9 @@
-ghost use Rattle.std.specs.Prelude.{◌≡◌, ◌<◌, true, false, is_ok, length, IfOk};
+ghost use Rattle.std.specs.Prelude.{◌≡◌, ℕ, ◌<◌, List, true, false, is_ok, length, IfOk};
 ghost use Rattle.std.specs.List.{AllByRecursion};
 ghost use Rattle.std.specs.Option.{option_copied};
 ghost use Rattle.mdc_types.specs.Geometry.{geometry_of};
-ghost use Rattle.script_text.specs.Lines.{lines_of, words_after};
-ghost use Rattle.script_text.specs.Script.{Reads, is_end, body_of, words_said, is_event_line};
+ghost use Rattle.script_text.specs.Lines.{lines_of, words_after, input_part};
+ghost use Rattle.script_text.specs.Script.{Reads, is_end, body_of, script_of, words_said, is_event_line};
 ghost use Rattle.script_text.specs.Reading.{words_read, ReadsLine, ReadsStart, Gives};
 
 use crate::events::line;
@@ -105,3 +105,8 @@ pub fn read_script(alloc: Global, bytes: &[u8]) -> Result<Script, ScriptEnd>
     let lines = read_lines(alloc, rest, room)?;
     Ok(Script { start, lines })
 }
+
+/// A law: what [`read_input`](crate::read_input) takes of an input is judged as all of it would be.
+pub fn part_is_judged_as_all()
+    ensures { (bytes : List ℕ) → script_of (input_part bytes) ≡ script_of bytes }
+{}

@@ -1,4 +1,4 @@
-use Rattle.std.proofs.Common.{sym, ◌∙◌, subst}
+use Rattle.std.proofs.Common.{sym, ◌∙◌}
 use Rattle.script_text.proofs.LinesLaws.{split_found, split_whole}
 use Rattle.script_text.proofs.lines.split_line.Goals as goal
 

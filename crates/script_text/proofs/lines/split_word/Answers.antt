@@ -1,6 +1,5 @@
-use Rattle.std.proofs.Common.{lit<, List, ℕ, ◌∷◌, ◌∙◌, sym, ap}
+use Rattle.std.proofs.Common.{lit<}
 use Rattle.std.proofs.lemmas.List.Splits.{slice_split_first}
-use Rattle.script_text.specs.Lines.{words_of}
 use Rattle.script_text.proofs.LinesLaws.{words_only}
 use Rattle.script_text.proofs.lines.split_word.Goals as goal
 

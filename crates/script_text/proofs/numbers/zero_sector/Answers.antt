@@ -1,4 +1,4 @@
-use Rattle.std.proofs.Common.{◌≡◌, ℕ, refl}
+use Rattle.std.proofs.Common.{refl}
 use Rattle.script_text.specs.Numbers.{sector_of}
 use Rattle.script_text.proofs.numbers.zero_sector.Goals as goal
 
