@@ -25,7 +25,11 @@ guarded_some false x y is = cc
 some_same : {A : Type 0} {x y : A} → Some x ≡ Some y → x ≡ y
 some_same is = cc
 
-warm_start_is : (args : List (List ℕ)) (s : Start) → warm_start args ≡ Some s → is_start s ≡ true
+pub record IsHeader (s : Start) : Type 0 where
+  pub start : is_start s ≡ true
+  pub spares : s.spares ≡ 0
+
+warm_start_is : (args : List (List ℕ)) (s : Start) → warm_start args ≡ Some s → IsHeader s
 warm_start_is args s is =
     let words = bind_some (four args) _ s is in
     let legs = bind_some (number_of words.0.0) _ s words.2 in
@@ -33,12 +37,12 @@ warm_start_is args s is =
     let chunk = bind_some (number_of words.0.2) _ s sectors.2 in
     let nodes = bind_some (number_of words.0.3) _ s chunk.2 in
     let made = guarded_some (is_start (warm_with legs.0 sectors.0 chunk.0 nodes.0)) (warm_with legs.0 sectors.0 chunk.0 nodes.0) s nodes.2 in
-    subst (λ t. is_start t ≡ true) made.1 made.0
+    subst IsHeader made.1 (record { start = made.0; spares = refl })
 
 -- the array of a header
-pub start_is : (word : List ℕ) (args : List (List ℕ)) (s : Start) → start_of word args ≡ Some s → is_start s ≡ true
+pub start_is : (word : List ℕ) (args : List (List ℕ)) (s : Start) → start_of word args ≡ Some s → IsHeader s
 start_is word args s is =
-    elim (bytes_eq word (codes "warm")) as (λ b. cond b (warm_start args) None ≡ Some s → is_start s ≡ true) [
+    elim (bytes_eq word (codes "warm")) as (λ b. cond b (warm_start args) None ≡ Some s → IsHeader s) [
       | true ↦ λ is. warm_start_is args s is
       | false ↦ λ is. cc
     ] is
@@ -123,10 +127,10 @@ body_are room (line ∷ lines) ls is = line_then_are (said_by room line) (body_o
 -- The whole.
 
 pub record IsWhole (s : ScriptValue) : Type 0 where
-  pub start : is_start s.start ≡ true
+  pub start : IsHeader s.start
   pub lines : AreEvents s.lines
 
-whole : (start : Option Start) (body : Option (List Line)) (s : ScriptValue) → ((t : Start) → start ≡ Some t → is_start t ≡ true) → ((ls : List Line) → body ≡ Some ls → AreEvents ls)
+whole : (start : Option Start) (body : Option (List Line)) (s : ScriptValue) → ((t : Start) → start ≡ Some t → IsHeader t) → ((ls : List Line) → body ≡ Some ls → AreEvents ls)
     → with_lines start body ≡ Some s → IsWhole s
 whole start body s f g is =
     let first = bind_some start _ s is in

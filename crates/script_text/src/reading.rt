@@ -96,9 +96,10 @@ pub fn read_script(alloc: Global, bytes: &[u8]) -> Result<Script, ScriptEnd>
     // It is this script, or the bytes have this fault, or memory is wanting.
     ensures reads { Reads result bytes.now }
 
-    // What is read is an array of one node, and lines of events that scripts have.
+    // What is read is an array of one node without spares, and lines of events that scripts have.
     ensures array { IfOk result (λ s. is_ok (geometry_of s.start.legs s.start.sectors s.start.sectors s.start.chunk false) ≡ true) }
     ensures nodes { IfOk result (λ s. s.start.nodes ≡ 1) }
+    ensures spares { IfOk result (λ s. s.start.spares ≡ 0) }
     ensures events { IfOk result (λ s. AllByRecursion (λ line. is_event_line line ≡ true) s.lines) }
 {
     let (start, rest, room) = read_start(bytes).ok_or(OUTSIDE)?;

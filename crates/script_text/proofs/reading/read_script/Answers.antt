@@ -15,11 +15,14 @@ read_whole bytes found start rest room lines r is body =
 
 pub returns-clause-array : goal.returns-clause-array
 returns-clause-array c =
-    start_array c.in_ok-start.start (read_whole c.args.bytes.now _ _ _ _ _ c.read_start.ensures c.in_ok-start.ensures.ok_part c.in_ok-lines.ensures).start
+    start_array c.in_ok-start.start (read_whole c.args.bytes.now _ _ _ _ _ c.read_start.ensures c.in_ok-start.ensures.ok_part c.in_ok-lines.ensures).start.start
 
 pub returns-clause-nodes : goal.returns-clause-nodes
 returns-clause-nodes c =
-    start_nodes c.in_ok-start.start (read_whole c.args.bytes.now _ _ _ _ _ c.read_start.ensures c.in_ok-start.ensures.ok_part c.in_ok-lines.ensures).start
+    start_nodes c.in_ok-start.start (read_whole c.args.bytes.now _ _ _ _ _ c.read_start.ensures c.in_ok-start.ensures.ok_part c.in_ok-lines.ensures).start.start
+
+pub returns-clause-spares : goal.returns-clause-spares
+returns-clause-spares c = (read_whole c.args.bytes.now _ _ _ _ _ c.read_start.ensures c.in_ok-start.ensures.ok_part c.in_ok-lines.ensures).start.spares
 
 pub returns-clause-events : goal.returns-clause-events
 returns-clause-events c = (read_whole c.args.bytes.now _ _ _ _ _ c.read_start.ensures c.in_ok-start.ensures.ok_part c.in_ok-lines.ensures).lines
