@@ -1,6 +1,6 @@
 -- Legs in memory before anything was written to them.
 use Rattle.std.proofs.Common.{◌≡◌, ℕ, zero, suc, ◌+◌, ◌<◌, List, [], ◌∷◌, map, length, get_or, Option, Some, None, true, Bool, refl, sym, ◌∙◌, ap, subst, arith}
-use Rattle.std.specs.Prelude.{replicate, Contains}
+use Rattle.std.specs.Prelude.{replicate, is_some, Contains}
 use Rattle.std.proofs.lemmas.List.{length-map, length-replicate}
 use Rattle.mdc_types.specs.Geometry.{Sizes, length_of}
 use Rattle.mdc_types.specs.declared.numbers.Sector.{Sector}
@@ -36,6 +36,15 @@ content_at : (count sectors l i : ℕ) → get_or (sectors_of (get_or (map told 
 content_at zero sectors l i = refl
 content_at (suc count) sectors zero i = zero_at sectors i
 content_at (suc count) sectors (suc l) i = content_at count sectors l i
+
+told_at : (count sectors l : ℕ) → l < count → is_some (get_or (map told (replicate count (blank_leg sectors))) l None) ≡ true
+told_at zero sectors l lt = absurd (omega (arith, lt))
+told_at (suc count) sectors zero lt = refl
+told_at (suc count) sectors (suc l) lt = told_at count sectors l (omega (arith, lt))
+
+-- each tells its contents
+pub blank_told : (count sectors : ℕ) (legs : List Memory) → legs ≡ replicate count (blank_leg sectors) → (l : ℕ) → l < count → (legs_of (map told legs)).told l ≡ true
+blank_told count sectors legs is = rw is (told_at count sectors)
 
 one_value : (values : List Sector) (v : Sector) → values ≡ zero_sector ∷ [] → v ≡ zero_sector → Contains values v
 one_value values v is e = rw is (zero, omega arith, sym e)

@@ -1,5 +1,5 @@
 -- What the lines of a script do, and what is printed for them.
-use Rattle.std.specs.Prelude.{◌≡◌, ◌⊎◌, ℕ, false, List, [], ◌∷◌, ◌++◌, reverse, take, length, slice_get, codes, Option, Some, None}
+use Rattle.std.specs.Prelude.{◌≡◌, ◌⊎◌, ◌<◌, ◌≤◌, ℕ, true, false, List, [], ◌∷◌, ◌++◌, reverse, take, length, slice_get, codes, Option, Some, None}
 use Rattle.mdc_types.specs.Geometry.{Sizes}
 use Rattle.mdc_types.specs.declared.events.Event.{Event}
 use Rattle.mdc_types.specs.declared.outcomes.Outcome.{Outcome}
@@ -64,12 +64,18 @@ sizes_of s = record { legs = s.legs; sectors = s.sectors; room = s.sectors; chun
 abbrev pub origin_of : Start → Origin
 origin_of s = header_at (sizes_of s) s.nodes s.warm s.spares
 
--- These lines were played from the header's opening: there is one trace, and a run with just its entries to one end.
+-- each leg tells its contents, so that each value that is read is one of the run
+abbrev pub AllTold : Start → State → Type 0
+AllTold header start = (l : ℕ) → l < header.legs → start.legs.told l ≡ true
+
+-- These lines were played from the header's opening: there is one trace, no longer than it may be, and a run with just its entries to one end.
 pub record Playing (header : Start) (lines : List Line) (past : List Entry) (end : State) (text : List ℕ) : Type 0 where
   pub start : State
   pub opens : Opens (origin_of header) start
+  pub told : AllTold header start
   pub plays : Plays start (reverse lines) end past text
   pub run : Run start past end
+  pub few : length past ≤ trace_limit
 
 -- An event was not done, or it was, and its line isn't printed.
 abbrev pub HaltsAt : State → List Entry → Line → State → List Entry → Type 0

@@ -3,7 +3,7 @@ ghost use Rattle.mdc_types.specs.Bits.{has_bit};
 ghost use Rattle.mdc_types.specs.Geometry.{geometry_of};
 ghost use Rattle.cluster_model.specs.Opening.{Opens};
 ghost use Rattle.cluster_core.specs.World.{state};
-ghost use Rattle.mdc.specs.Lines.{origin_of, sizes_of};
+ghost use Rattle.mdc.specs.Lines.{AllTold, origin_of, sizes_of};
 ghost use Rattle.mdc.specs.Blank.{blank_leg};
 
 use cluster_core::World;
@@ -48,6 +48,7 @@ pub fn open_world(alloc: Global, start: &Start) -> Result<World<MemLeg>, AllocEr
     requires nodes { start.now.nodes ≤ 8 }
     requires spares { has_bit start.now.spares 0 ≡ false }
     ensures opens { IfOk result (λ world. Opens (origin_of start.now) (state world)) }
+    ensures told { IfOk result (λ world. AllTold start.now (state world)) }
     ensures past { IfOk result (λ world. world.past ≡ []) }
 {
     let geometry = geometry_of(start);
