@@ -1,5 +1,5 @@
 -- From the lines that were played to what the program answers.
-use Rattle.std.proofs.Common.{◌≡◌, ◌⊎◌, inl, inr, ℕ, ◌+◌, ◌<◌, ◌≤◌, Option, Some, None, Result, Ok, List, [], ◌∷◌, ◌++◌, length, take, refl, sym, ◌∙◌, ap, subst}
+use Rattle.std.proofs.Common.{◌≡◌, inl, inr, ℕ, ◌+◌, ◌≤◌, Option, Some, None, Result, Ok, List, ◌++◌, length, take, refl, sym, ◌∙◌, ap, subst}
 use Rattle.std.specs.Prelude.{reverse, slice_get}
 use Rattle.std.proofs.Math.Seq.{take-append-add}
 use Rattle.mdc_types.specs.Faults.{Rose}
@@ -16,8 +16,8 @@ use Rattle.script_text.specs.declared.script.Line.TheVariants.{Event as event_li
 use Rattle.script_text.specs.Script.{ScriptValue, IsScript, script_of, fault_of}
 use Rattle.script_text.specs.Outside.{with_back, WroteFront}
 use Rattle.cluster_core.specs.World.{trace_limit}
-use Rattle.mdc.specs.Lines.{AllTold, origin_of, Plays, Playing, Sofar, CutShort, RanFull}
-use Rattle.mdc.specs.Answers.{Outside, Reads, Judged, Answers, Ran, PlaysAll, PlaysSome, PlaysFull, RunText, ReadsScript, ReadsNone, trace_full_line, script_line}
+use Rattle.mdc.specs.Lines.{AllTold, origin_of, Plays, Sofar, CutShort, RanFull}
+use Rattle.mdc.specs.Answers.{Outside, Reads, Judged, Answers, Ran, PlaysSome, PlaysFull, ReadsScript, ReadsNone, trace_full_line, script_line}
 use Rattle.mdc.specs.Answers.RunText.{some_lines, then_full}
 use Rattle.mdc.specs.Answers.IsText.{no_script, of_run}
 use Rattle.mdc.specs.declared.status.Status.{Status}

@@ -1,5 +1,5 @@
 -- Legs in memory before anything was written to them.
-use Rattle.std.proofs.Common.{◌≡◌, ℕ, zero, suc, ◌+◌, ◌<◌, List, [], ◌∷◌, map, length, get_or, Option, Some, None, true, Bool, refl, sym, ◌∙◌, ap, subst, arith}
+use Rattle.std.proofs.Common.{◌≡◌, ℕ, zero, suc, ◌<◌, List, [], ◌∷◌, map, length, get_or, None, true, Bool, refl, sym, ◌∙◌, arith}
 use Rattle.std.specs.Prelude.{replicate, is_some, Contains}
 use Rattle.std.proofs.lemmas.List.{length-map, length-replicate}
 use Rattle.mdc_types.specs.Geometry.{Sizes, length_of}

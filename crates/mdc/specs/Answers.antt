@@ -1,5 +1,5 @@
 -- What the program answers, and when.
-use Rattle.std.specs.Prelude.{◌≡◌, ◌⊎◌, ℕ, List, [], ◌++◌, take, slice_get, codes, IfSome, Option, Some, None, Ok, Err, length}
+use Rattle.std.specs.Prelude.{◌≡◌, ◌⊎◌, ℕ, List, ◌++◌, take, slice_get, codes, IfSome, Option, Some, None, Ok, Err, length}
 use Rattle.std.specs.Fmt.{decimal}
 use Rattle.mdc_types.specs.Faults.{Rose}
 use Rattle.mdc_types.specs.declared.events.Event.{Event}

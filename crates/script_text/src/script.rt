@@ -14,7 +14,8 @@ pub struct Start {
     pub chunk: u32,
     /// The number of nodes, which are all members.
     pub nodes: u8,
-    /// Whether each bit of each member's slot is set on every leg.
+    /// Whether the array opens with every bit of its members' write-intent bitmaps set, as after an
+    /// unclean stop.
     pub warm: bool,
     /// The legs that are spares, one bit each.
     pub spares: u8,

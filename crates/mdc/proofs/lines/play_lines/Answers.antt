@@ -1,6 +1,5 @@
-use Rattle.std.proofs.Common.{length, arith}
+use Rattle.std.proofs.Common.{arith}
 use Rattle.std.proofs.lemmas.List.{get_or_default}
-use Rattle.cluster_core.specs.World.{state}
 use Rattle.mdc.proofs.Played.{next_line, cut_at, halt_at, full_at}
 use Rattle.mdc.proofs.lines.play_lines.Goals as goal
 

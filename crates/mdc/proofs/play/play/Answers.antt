@@ -1,4 +1,4 @@
-use Rattle.std.proofs.Common.{refl, Err, sym, ◌∙◌, ap}
+use Rattle.std.proofs.Common.{Err, sym, ◌∙◌, ap}
 use Rattle.std.specs.Prelude.{map}
 use Rattle.std.specs.String.{string_bytes}
 use Rattle.mdc.specs.Answers.IsText.{no_command, no_input}
