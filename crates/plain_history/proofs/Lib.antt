@@ -1,1 +1,4 @@
 mod Examples
+pub mod Apart
+pub mod Members
+pub mod SeenLaw
