@@ -4,6 +4,11 @@
 
 ghost use Rattle.plain_history.specs.Seen.{FinishedWritesAreSeen};
 
+mod asked;
+mod values;
+
+pub use asked::{AskedRead, AskedWrite};
+
 /// After the end of a write, each later read of its sector in a legal trace gives that write's value, or
 /// the value of a write that started after that end.
 pub fn finished_writes_are_seen()
