@@ -1,0 +1,5 @@
+pub mod History
+pub mod Seen
+pub mod Asked
+pub mod Tables
+pub mod Runs
