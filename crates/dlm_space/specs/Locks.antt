@@ -61,9 +61,13 @@ abbrev pub disagrees : Mode → Option Mode → Bool
 disagrees mode None = false
 disagrees mode (Some held) = not (agrees mode held)
 
--- the least other holder that disagrees with this mode of the node
+-- another node m holds what disagrees with the mode of n
+abbrev pub is_against : Lock → ℕ → Mode → ℕ → Bool
+is_against lock n mode m = not (m == n) && disagrees mode (lock.held m)
+
+-- the least other holder that disagrees with the mode of n
 abbrev pub blocker : Lock → ℕ → Mode → Option ℕ
-blocker lock n mode = first_such (λ m. not (m == n) && disagrees mode (lock.held m)) 0 16
+blocker lock n mode = first_such (is_against lock n mode) 0 16
 
 abbrev pub blocked : Lock → Option ℕ → Option LockError
 blocked lock None = None
@@ -143,9 +147,13 @@ granted_to lock [] [] = lock
 abbrev pub granted : Lock → Lock
 granted lock = granted_to lock lock.conversions lock.requests
 
--- the given value, where the node held PW or EX, is written; a waiting conversion is dropped
+-- the given value, where a release of the mode writes it
+abbrev pub left : Mode → Option Block → Option Block
+left from value = if is_writer from then value else None
+
+-- a waiting conversion is dropped; a request stays
 abbrev pub released : Lock → ℕ → Option Block → Lock
-released lock n value = record (with_value lock (if is_writer (mode_of lock n) then value else None)) {
+released lock n value = record (with_value lock (left (mode_of lock n) value)) {
   held = with_at lock.held n None;
   conversions = without n lock.conversions;
 }
@@ -190,7 +198,7 @@ grant_answer lock = answer_of lock lock.conversions lock.requests
 
 abbrev pub calling : Lock → ℕ → Option Ask → Option ℕ
 calling lock n None = None
-calling lock n (Some a) = if not (a.node == n) && disagrees a.mode (lock.held n) then Some a.node else None
+calling lock n (Some a) = if is_against lock a.node a.mode n then Some a.node else None
 
 -- the asker at the head whose mode disagrees with what this other node holds
 abbrev pub caller : Lock → ℕ → Option ℕ

@@ -1,7 +1,7 @@
 ghost use Rattle.std.specs.Prelude.{◌≡◌, ◌<◌, IfSome, IfOk, OnOk, OnErr, Some};
 ghost use Rattle.std.specs.Result.{result_err};
 ghost use Rattle.dlm_space.specs.Queues.{asks, without, head};
-ghost use Rattle.dlm_space.specs.Locks.{new_lock, mode_of, is_writer, disagrees, blocker, ask_refusal, ask_now_refusal, blocked, convert_refusal, convert_now_refusal, grant_refusal, release_refusal, with_value, asked, asked_now, converted, converted_now, granted, released, died, valid_block, convert_answer, answer_to, grant_answer, caller, written};
+ghost use Rattle.dlm_space.specs.Locks.{new_lock, mode_of, is_writer, disagrees, is_against, blocker, ask_refusal, ask_now_refusal, blocked, convert_refusal, convert_now_refusal, grant_refusal, release_refusal, holding, with_value, asked, asked_now, converted, converted_now, granted, released, died, valid_block, convert_answer, answer_to, grant_answer, caller, written, left};
 ghost use Rattle.dlm_space.specs.Parts.{lock_of};
 
 use crate::{Ask, Converted, Granted, LockError};
@@ -55,6 +55,13 @@ fn written(from: Mode, to: Mode, value: Option<Block>) -> Option<Block>
     ensures { result ≡ written from to value }
 {
     if writes_value(from, to) { value } else { None }
+}
+
+// The value that the release of the mode writes.
+fn left(from: Mode, value: Option<Block>) -> Option<Block>
+    ensures { result ≡ left from value }
+{
+    if is_writer(from) { value } else { None }
 }
 
 fn asks(node: u8, queue: &[Ask]) -> bool
@@ -116,13 +123,21 @@ impl Resource {
         self.held[node as usize].unwrap_or(Mode::NL)
     }
 
-    // The least other holder that disagrees with this mode of the node.
+    // Whether `m` is another node, which holds what disagrees with the mode of `node`.
+    fn is_against(&self, node: u8, mode: Mode, m: u8) -> bool
+        requires { m < 16 }
+        ensures { result ≡ is_against (lock_of self.now) node mode m }
+    {
+        m != node && disagrees(mode, self.held[m as usize])
+    }
+
+    // The least other holder that disagrees with the mode of the node.
     fn blocker(&self, node: u8, mode: Mode) -> Option<u8>
         ensures least { result ≡ blocker (lock_of self.now) node mode }
         ensures node { IfSome result (λ m. m < 16) }
     {
         for m in 0..16 {
-            if m != node && disagrees(mode, self.held[m as usize]) {
+            if self.is_against(node, mode, m) {
                 return Some(m);
             }
         }
@@ -172,6 +187,13 @@ impl Resource {
         Ok(())
     }
 
+    fn hold(&mut self, node: u8, mode: Mode)
+        requires { node < 16 }
+        ensures { lock_of self.new ≡ holding (lock_of self.old) node mode }
+    {
+        self.held[node as usize] = Some(mode);
+    }
+
     fn write(&mut self, value: Option<Block>)
         ensures { lock_of self.new ≡ with_value (lock_of self.old) value }
     {
@@ -201,7 +223,7 @@ impl Resource {
     {
         self.may_ask(node)?;
         self.may_take(node, mode)?;
-        self.held[node as usize] = Some(mode);
+        self.hold(node, mode);
         Ok(self.valid_block())
     }
 
@@ -229,8 +251,8 @@ impl Resource {
             self.conversions.push(Ask { node, mode });
             return Ok(Converted::Queued);
         }
+        self.hold(node, mode);
         self.write(written(from, mode, value));
-        self.held[node as usize] = Some(mode);
         Ok(Converted::Now)
     }
 
@@ -242,7 +264,7 @@ impl Resource {
     {
         self.may_convert(node)?;
         self.may_take(node, mode)?;
-        self.held[node as usize] = Some(mode);
+        self.hold(node, mode);
         Ok(())
     }
 
@@ -277,12 +299,12 @@ impl Resource {
     {
         if !self.conversions.is_empty() {
             let a = self.conversions.remove(0);
-            self.held[a.node as usize] = Some(a.mode);
+            self.hold(a.node, a.mode);
             return;
         }
         if !self.requests.is_empty() {
             let a = self.requests.remove(0);
-            self.held[a.node as usize] = Some(a.mode);
+            self.hold(a.node, a.mode);
         }
     }
 
@@ -312,11 +334,10 @@ impl Resource {
         ensures err { OnErr result (self.new ≡ self.old) }
     {
         self.may_release(node)?;
-        if is_writer(self.mode_of(node)) {
-            self.write(value);
-        }
+        let from = self.mode_of(node);
         self.held[node as usize] = None;
         leave(node, &mut self.conversions);
+        self.write(left(from, value));
         Ok(())
     }
 
@@ -335,7 +356,7 @@ impl Resource {
         ensures { result ≡ caller (lock_of self.now) node }
     {
         let a = self.head()?;
-        if a.node != node && disagrees(a.mode, self.held[node as usize]) {
+        if self.is_against(a.node, a.mode, node) {
             return Some(a.node);
         }
         None
