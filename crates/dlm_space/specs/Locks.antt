@@ -30,6 +30,10 @@ zero_block = record { bytes = replicate 64 0 }
 abbrev pub new_lock : Lock
 new_lock = record { held = λ n. None; conversions = []; requests = []; block = zero_block; valid = true }
 
+-- by resource
+abbrev pub new_locks : ℕ → Lock
+new_locks r = new_lock
+
 -- f with v at n
 abbrev pub with_at : {A : Type 0} → (ℕ → A) → ℕ → A → ℕ → A
 with_at f n v m = if m == n then v else f m
@@ -166,6 +170,10 @@ died lock n = record lock {
   requests = without n lock.requests;
   valid = lock.valid && not (is_writer (mode_of lock n));
 }
+
+-- the node leaves all resources
+abbrev pub all_died : (ℕ → Lock) → ℕ → ℕ → Lock
+all_died locks n r = died (locks r) n
 
 -- Answers.
 

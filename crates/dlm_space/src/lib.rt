@@ -9,8 +9,8 @@
 mod answers;
 mod ask;
 mod resource;
-// mod space;
+mod space;
 
 pub use answers::{Converted, Granted, LockError};
 pub use ask::Ask;
-// pub use space::Space;
+pub use space::Space;
