@@ -1,3 +1,4 @@
 pub mod QueueLaws
 pub mod GuardLaws
 pub mod PartLaws
+pub mod Kept
