@@ -51,4 +51,3 @@ grantable lock (Some m) e = cc
 
 pub head_grantable : (lock : Lock) (a : Ask) → head_refusal lock (Some a) ≡ None → blocker lock a.node a.mode ≡ None
 head_grantable lock a e = grantable lock _ e
-

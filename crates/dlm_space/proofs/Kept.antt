@@ -111,13 +111,13 @@ died_orderly lock n i = record {
 }
 
 -- the first of a queue asks in it, and is in it once
-asks_head : (a : Ask) (queue : List Ask) → asks a.node (a ∷ queue) ≡ true
+pub asks_head : (a : Ask) (queue : List Ask) → asks a.node (a ∷ queue) ≡ true
 asks_head a queue = grind arith
 
 asks_rest : (a : Ask) (queue : List Ask) (m : ℕ) → asks m queue ≡ true → asks m (a ∷ queue) ≡ true
 asks_rest a queue m e = grind arith
 
-once_head : (a : Ask) (queue : List Ask) → IsQueue (a ∷ queue) → asks a.node queue ≡ false
+pub once_head : (a : Ask) (queue : List Ask) → IsQueue (a ∷ queue) → asks a.node queue ≡ false
 once_head a queue i = grind (arith, i.once a.node)
 
 converted_orderly : (lock : Lock) (a : Ask) (rest : List Ask) → IsOrderly lock → lock.conversions ≡ a ∷ rest → NoneAgainst lock a.node a.mode → IsOrderly (record lock { held = with_at lock.held a.node (Some a.mode); conversions = rest })

@@ -2,3 +2,5 @@ pub mod QueueLaws
 pub mod GuardLaws
 pub mod PartLaws
 pub mod Kept
+pub mod Runs
+pub mod Told

@@ -8,9 +8,11 @@
 
 mod answers;
 mod ask;
+mod laws;
 mod resource;
 mod space;
 
 pub use answers::{Converted, Granted, LockError};
 pub use ask::Ask;
+pub use laws::{calls_are_sound, locks_are_orderly};
 pub use space::Space;
