@@ -8,7 +8,6 @@ ghost use Rattle.dlm_space.specs.Orderly.{LocksAreOrderly};
 /// grant served the first waiting conversion, else the first waiting request, in order of asking, and
 /// handed out the block exactly where that conversion, or one from NL, reads it. `ask_now` handed it
 /// out exactly where it was valid, and no other call hands it out.
-#[tactic(auto, using(crate::proofs::Told::calls_are_sound))]
 pub fn calls_are_sound()
     ensures { CallsAreSound }
 {}
@@ -16,7 +15,6 @@ pub fn calls_are_sound()
 /// After every list of accepted calls each lock is orderly: nodes are below 16, holders agree, a node
 /// waits once at most in each queue, one whose conversion waits holds the resource, and one whose
 /// request waits holds nothing.
-#[tactic(auto, using(crate::proofs::Runs::runs_orderly))]
 pub fn locks_are_orderly()
     ensures { LocksAreOrderly }
 {}
