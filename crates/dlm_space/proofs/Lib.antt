@@ -4,3 +4,4 @@ pub mod PartLaws
 pub mod Kept
 pub mod Runs
 pub mod Told
+pub mod Steps

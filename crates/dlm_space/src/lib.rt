@@ -11,6 +11,8 @@ mod ask;
 mod laws;
 mod resource;
 mod space;
+#[cfg(test)]
+mod tests;
 
 pub use answers::{Converted, Granted, LockError};
 pub use ask::Ask;
