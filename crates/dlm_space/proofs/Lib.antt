@@ -5,3 +5,4 @@ pub mod Kept
 pub mod Runs
 pub mod Told
 pub mod Steps
+mod Examples

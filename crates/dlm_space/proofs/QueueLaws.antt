@@ -1,6 +1,6 @@
 -- Queues: what is asked in one that changes, and that there is room in it.
 use Rattle.std.proofs.Common.{◌≡◌, ◌≢◌, ◌<◌, ◌≤◌, ◌+◌, ℕ, zero, suc, length, List, [], ◌∷◌, ◌++◌, Bool, true, false, not, ◌==◌, ◌||◌, cond, Option, Some, None, get_or, refl, sym, ap, ◌∙◌, subst, arith, if◌then◌else◌}
-use Rattle.std.specs.List.{list_any, slice_get, remove}
+use Rattle.std.specs.List.{list_any, slice_get}
 use Rattle.std.specs.List.Retain.{RetainsInTurn}
 use Rattle.std.proofs.lemmas.Bool.Decides.{nat_tests}
 use Rattle.dlm_modes.specs.declared.mode.Mode.{Mode}
@@ -39,6 +39,9 @@ IsQueue-without n q i = record {
   once = λ m. grind (arith, asks_of-without m n q, i.once m);
 }
 
+pub queue_without : (n : ℕ) (q rest : List Ask) → rest ≡ without n q → IsQueue q → IsQueue rest
+queue_without n q rest e i = rw e (IsQueue-without n q i)
+
 pub IsQueue-rest : (a : Ask) (q : List Ask) → IsQueue (a ∷ q) → IsQueue q
 IsQueue-rest a q i = record {
   nodes = λ m le. grind (arith, i.nodes m le);
@@ -52,10 +55,11 @@ pub first_node : (q : List Ask) (a : Ask) → IsQueue q → Some a ≡ slice_get
 first_node [] a i e = cc
 first_node (x ∷ q) a i e = let same : x ≡ a = cc in subst (λ (y : Ask). y.node < 16) same (IsQueue-node x q i)
 
--- what `remove(0)` gives and leaves
-pub head_rest : (q rest : List Ask) (a : Ask) → (length q == 0) ≡ false → a ≡ get_or q 0 a → rest ≡ remove q 0 → q ≡ a ∷ rest
-head_rest [] rest a full e f = cc
-head_rest (x ∷ q) rest a full e f = rw (e, f) refl
+pub queue_rest : (a : Ask) (rest q : List Ask) → q ≡ a ∷ rest → IsQueue q → IsQueue rest
+queue_rest a rest q e i = IsQueue-rest a rest (subst IsQueue e i)
+
+pub queue_node : (a : Ask) (rest q : List Ask) → q ≡ a ∷ rest → IsQueue q → a.node < 16
+queue_node a rest q e i = IsQueue-node a rest (subst IsQueue e i)
 
 kept : (gone b : Bool) (x y : Ask) (zs ws : List Ask) → b ≡ not gone → y ≡ x → zs ≡ ws → cond b (y ∷ zs) zs ≡ (if gone then ws else x ∷ ws)
 kept gone b x y zs ws e f g = grind arith

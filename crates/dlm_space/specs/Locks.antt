@@ -155,18 +155,16 @@ granted lock = granted_to lock lock.conversions lock.requests
 abbrev pub left : Mode → Option Block → Option Block
 left from value = if is_writer from then value else None
 
--- a waiting conversion is dropped; a request stays
-abbrev pub released : Lock → ℕ → Option Block → Lock
-released lock n value = record (with_value lock (left (mode_of lock n) value)) {
-  held = with_at lock.held n None;
-  conversions = without n lock.conversions;
-}
+-- the node holds nothing, and its waiting conversion is dropped; its request stays
+abbrev pub let_go : Lock → ℕ → Lock
+let_go lock n = record lock { held = with_at lock.held n None; conversions = without n lock.conversions }
 
--- the block is invalid where the node held PW or EX
+abbrev pub released : Lock → ℕ → Option Block → Lock
+released lock n value = let_go (with_value lock (left (mode_of lock n) value)) n
+
+-- the node's request is dropped too, and the block is invalid where it held PW or EX
 abbrev pub died : Lock → ℕ → Lock
-died lock n = record lock {
-  held = with_at lock.held n None;
-  conversions = without n lock.conversions;
+died lock n = record (let_go lock n) {
   requests = without n lock.requests;
   valid = lock.valid && not (is_writer (mode_of lock n));
 }

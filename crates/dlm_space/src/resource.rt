@@ -1,7 +1,7 @@
-ghost use Rattle.std.specs.Prelude.{◌≡◌, ◌<◌, IfSome, IfOk, OnOk, OnErr, Some};
+ghost use Rattle.std.specs.Prelude.{◌≡◌, ◌<◌, ◌∷◌, [], IfNone, IfSome, IfOk, OnOk, OnErr, Some};
 ghost use Rattle.std.specs.Result.{result_err};
 ghost use Rattle.dlm_space.specs.Queues.{asks, without, head};
-ghost use Rattle.dlm_space.specs.Locks.{new_lock, mode_of, is_writer, disagrees, is_against, blocker, ask_refusal, ask_now_refusal, blocked, convert_refusal, convert_now_refusal, grant_refusal, release_refusal, holding, with_value, asked, asked_now, converted, converted_now, granted, released, died, valid_block, convert_answer, answer_to, grant_answer, caller, written, left};
+ghost use Rattle.dlm_space.specs.Locks.{new_lock, mode_of, is_writer, disagrees, is_against, blocker, ask_refusal, ask_now_refusal, blocked, convert_refusal, convert_now_refusal, grant_refusal, release_refusal, holding, with_value, asked, asked_now, converted, converted_now, granted, let_go, released, died, valid_block, convert_answer, answer_to, grant_answer, caller, written, left};
 ghost use Rattle.dlm_space.specs.Parts.{lock_of};
 
 use crate::{Ask, Converted, Granted, LockError};
@@ -74,6 +74,13 @@ fn leave(node: u8, queue: &mut ArrayVec<Ask, 16>)
     ensures { queue.new.items ≡ without node queue.old.items }
 {
     queue.retain(|a| a.node != node);
+}
+
+fn take_first(queue: &mut ArrayVec<Ask, 16>) -> Option<Ask>
+    ensures first { IfSome result (λ a. queue.old.items ≡ a ∷ queue.new.items) }
+    ensures none { IfNone result ((queue.old.items ≡ []) × (queue.new ≡ queue.old)) }
+{
+    queue.pop_at(0)
 }
 
 fn head(conversions: &[Ask], requests: &[Ask]) -> Option<Ask>
@@ -294,16 +301,15 @@ impl Resource {
         Some(self.answer_to(Mode::NL, *a))
     }
 
+    #[tactic(auto, using(crate::proofs::QueueLaws::queue_rest, crate::proofs::QueueLaws::queue_node))]
     fn serve(&mut self)
         ensures { lock_of self.new ≡ granted (lock_of self.old) }
     {
-        if !self.conversions.is_empty() {
-            let a = self.conversions.remove(0);
+        if let Some(a) = take_first(&mut self.conversions) {
             self.hold(a.node, a.mode);
             return;
         }
-        if !self.requests.is_empty() {
-            let a = self.requests.remove(0);
+        if let Some(a) = take_first(&mut self.requests) {
             self.hold(a.node, a.mode);
         }
     }
@@ -327,6 +333,15 @@ impl Resource {
         Ok(granted)
     }
 
+    #[tactic(auto, using(crate::proofs::QueueLaws::queue_without))]
+    fn let_go(&mut self, node: u8)
+        requires { node < 16 }
+        ensures { lock_of self.new ≡ let_go (lock_of self.old) node }
+    {
+        self.held[node as usize] = None;
+        leave(node, &mut self.conversions);
+    }
+
     pub fn release(&mut self, node: u8, value: Option<Block>) -> Result<(), LockError>
         requires { node < 16 }
         ensures refused { result_err result ≡ release_refusal (lock_of self.old) node }
@@ -335,20 +350,19 @@ impl Resource {
     {
         self.may_release(node)?;
         let from = self.mode_of(node);
-        self.held[node as usize] = None;
-        leave(node, &mut self.conversions);
+        self.let_go(node);
         self.write(left(from, value));
         Ok(())
     }
 
+    #[tactic(auto, using(crate::proofs::QueueLaws::queue_without))]
     pub fn die(&mut self, node: u8)
         requires { node < 16 }
         ensures { lock_of self.new ≡ died (lock_of self.old) node }
     {
         self.valid = self.valid && !is_writer(self.mode_of(node));
-        self.held[node as usize] = None;
-        leave(node, &mut self.conversions);
         leave(node, &mut self.requests);
+        self.let_go(node);
     }
 
     pub fn caller(&self, node: u8) -> Option<u8>

@@ -1,6 +1,0 @@
-use Rattle.dlm_space.proofs.QueueLaws.{IsQueue-without}
-use Rattle.dlm_space.proofs.resource.Resource.die.Goals as goal
-
-pub invariant_of-self : goal.invariant_of-self
-invariant_of-self c =
-    (rw c.leave.ensures (IsQueue-without c.args.node _ c.self.invariant.0), rw c.leave-2.ensures (IsQueue-without c.args.node _ c.self.invariant.1))
