@@ -173,6 +173,14 @@ impl Resource {
         Ok(())
     }
 
+    fn may_ask_now(&self, node: u8, mode: Mode) -> Result<(), LockError>
+        requires { node < 16 }
+        ensures { result_err result ≡ ask_now_refusal (lock_of self.now) node mode }
+    {
+        self.may_ask(node)?;
+        self.may_take(node, mode)
+    }
+
     fn may_release(&self, node: u8) -> Result<(), LockError>
         requires { node < 16 }
         ensures { result_err result ≡ release_refusal (lock_of self.now) node }
@@ -192,6 +200,14 @@ impl Resource {
             return Err(LockError::AlreadyAsked);
         }
         Ok(())
+    }
+
+    fn may_convert_now(&self, node: u8, mode: Mode) -> Result<(), LockError>
+        requires { node < 16 }
+        ensures { result_err result ≡ convert_now_refusal (lock_of self.now) node mode }
+    {
+        self.may_convert(node)?;
+        self.may_take(node, mode)
     }
 
     fn hold(&mut self, node: u8, mode: Mode)
@@ -228,8 +244,7 @@ impl Resource {
         ensures ok { OnOk result (lock_of self.new ≡ asked_now (lock_of self.old) node mode) }
         ensures err { OnErr result (self.new ≡ self.old) }
     {
-        self.may_ask(node)?;
-        self.may_take(node, mode)?;
+        self.may_ask_now(node, mode)?;
         self.hold(node, mode);
         Ok(self.valid_block())
     }
@@ -269,8 +284,7 @@ impl Resource {
         ensures ok { OnOk result (lock_of self.new ≡ converted_now (lock_of self.old) node mode) }
         ensures err { OnErr result (self.new ≡ self.old) }
     {
-        self.may_convert(node)?;
-        self.may_take(node, mode)?;
+        self.may_convert_now(node, mode)?;
         self.hold(node, mode);
         Ok(())
     }
