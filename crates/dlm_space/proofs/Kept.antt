@@ -7,12 +7,13 @@ use Rattle.dlm_modes.specs.declared.block.Block.{Block}
 use Rattle.dlm_modes.specs.declared.mode.Mode.{Mode}
 use Rattle.dlm_modes.specs.declared.mode.Mode.TheVariants.{NL}
 use Rattle.dlm_space.specs.Queues.{ask_for, asks_of, asks, without, head}
-use Rattle.dlm_space.specs.Locks.{Lock, new_lock, with_at, mode_of, disagrees, blocker, head_refusal, holding, with_value, asked, queued, granted_to, granted, released, died}
+use Rattle.dlm_space.specs.Locks.{Lock, new_lock, with_at, mode_of, disagrees, or_then, blocker, blocked, ask_refusal, ask_now_refusal, convert_refusal, convert_now_refusal, head_refusal, grant_refusal, release_refusal, holding, with_value, asked, asked_now, queued, converted_value, converted, converted_now, granted_from, granted, released, died}
 use Rattle.dlm_space.specs.Parts.{IsQueue}
 use Rattle.dlm_space.specs.Orderly.{agree, IsOrderly}
+use Rattle.dlm_space.specs.declared.answers.LockError.{LockError}
 use Rattle.dlm_space.specs.declared.ask.Ask.{Ask}
-use Rattle.dlm_space.proofs.QueueLaws.{asks_of-push, asks_of-without, IsQueue-push, IsQueue-without, IsQueue-rest, IsQueue-node}
-use Rattle.dlm_space.proofs.GuardLaws.{Free, Convertible, NoneAgainst, none_against, head_grantable}
+use Rattle.dlm_space.proofs.QueueLaws.{asks_of-push, asks_of-without, IsQueue-push, IsQueue-without, IsQueue-rest, IsQueue-node, asks_head, asks_rest, once_head}
+use Rattle.dlm_space.proofs.GuardLaws.{Free, free, Convertible, convertible, NoneAgainst, none_against, not_blocked, head_grantable}
 
 agree_sym : (a b : Option Mode) → agree a b ≡ true → agree b a ≡ true
 agree_sym a b e = grind arith
@@ -50,7 +51,7 @@ new_orderly = record {
   requester = λ n e. refl;
 }
 
-pub asked_orderly : (lock : Lock) (n : ℕ) (mode : Mode) → IsOrderly lock → n < 16 → Free lock n → IsOrderly (asked lock n mode)
+asked_orderly : (lock : Lock) (n : ℕ) (mode : Mode) → IsOrderly lock → n < 16 → Free lock n → IsOrderly (asked lock n mode)
 asked_orderly lock n mode i lt f = record {
   holders = i.holders;
   agree = i.agree;
@@ -60,7 +61,7 @@ asked_orderly lock n mode i lt f = record {
   requester = λ m e. grind (arith, nat_tests, asks_of-push m lock.requests (ask_for n mode), i.requester m, f.holds);
 }
 
-pub queued_orderly : (lock : Lock) (n : ℕ) (mode : Mode) → IsOrderly lock → n < 16 → Convertible lock n → IsOrderly (queued lock n mode)
+queued_orderly : (lock : Lock) (n : ℕ) (mode : Mode) → IsOrderly lock → n < 16 → Convertible lock n → IsOrderly (queued lock n mode)
 queued_orderly lock n mode i lt f = record {
   holders = i.holders;
   agree = i.agree;
@@ -70,7 +71,7 @@ queued_orderly lock n mode i lt f = record {
   requester = i.requester;
 }
 
-pub holding_orderly : (lock : Lock) (n : ℕ) (mode : Mode) → IsOrderly lock → n < 16 → asks n lock.requests ≡ false → NoneAgainst lock n mode → IsOrderly (holding lock n mode)
+holding_orderly : (lock : Lock) (n : ℕ) (mode : Mode) → IsOrderly lock → n < 16 → asks n lock.requests ≡ false → NoneAgainst lock n mode → IsOrderly (holding lock n mode)
 holding_orderly lock n mode i lt f g = record {
   holders = λ m le. grind (arith, nat_tests, i.holders m le);
   agree = agree_hold lock n mode i.agree g;
@@ -80,7 +81,7 @@ holding_orderly lock n mode i lt f g = record {
   requester = λ m e. grind (arith, nat_tests, i.requester m e, f);
 }
 
-pub with_value_orderly : (lock : Lock) (value : Option Block) → IsOrderly lock → IsOrderly (with_value lock value)
+with_value_orderly : (lock : Lock) (value : Option Block) → IsOrderly lock → IsOrderly (with_value lock value)
 with_value_orderly lock value i = record {
   holders = i.holders;
   agree = i.agree;
@@ -90,7 +91,7 @@ with_value_orderly lock value i = record {
   requester = i.requester;
 }
 
-pub released_orderly : (lock : Lock) (n : ℕ) (value : Option Block) → IsOrderly lock → is_some (lock.held n) ≡ true → IsOrderly (released lock n value)
+released_orderly : (lock : Lock) (n : ℕ) (value : Option Block) → IsOrderly lock → is_some (lock.held n) ≡ true → IsOrderly (released lock n value)
 released_orderly lock n value i h = record {
   holders = λ m le. grind (arith, nat_tests, i.holders m le);
   agree = agree_leave lock n i.agree;
@@ -100,7 +101,7 @@ released_orderly lock n value i h = record {
   requester = λ m e. grind (arith, nat_tests, i.requester m e);
 }
 
-pub died_orderly : (lock : Lock) (n : ℕ) → IsOrderly lock → IsOrderly (died lock n)
+died_orderly : (lock : Lock) (n : ℕ) → IsOrderly lock → IsOrderly (died lock n)
 died_orderly lock n i = record {
   holders = λ m le. grind (arith, nat_tests, i.holders m le);
   agree = agree_leave lock n i.agree;
@@ -109,16 +110,6 @@ died_orderly lock n i = record {
   converter = λ m e. grind (arith, nat_tests, asks_of-without m n lock.conversions, i.converter m);
   requester = λ m e. grind (arith, nat_tests, asks_of-without m n lock.requests, i.requester m);
 }
-
--- the first of a queue asks in it, and is in it once
-pub asks_head : (a : Ask) (queue : List Ask) → asks a.node (a ∷ queue) ≡ true
-asks_head a queue = grind arith
-
-asks_rest : (a : Ask) (queue : List Ask) (m : ℕ) → asks m queue ≡ true → asks m (a ∷ queue) ≡ true
-asks_rest a queue m e = grind arith
-
-pub once_head : (a : Ask) (queue : List Ask) → IsQueue (a ∷ queue) → asks a.node queue ≡ false
-once_head a queue i = grind (arith, i.once a.node)
 
 converted_orderly : (lock : Lock) (a : Ask) (rest : List Ask) → IsOrderly lock → lock.conversions ≡ a ∷ rest → NoneAgainst lock a.node a.mode → IsOrderly (record lock { held = with_at lock.held a.node (Some a.mode); conversions = rest })
 converted_orderly lock a rest i q g =
@@ -148,10 +139,48 @@ requested_orderly lock a rest i q g =
       requester = λ m e. grind (arith, nat_tests, i.requester m (rw q (asks_rest a rest m e)), once);
     }
 
-granted_to_orderly : (lock : Lock) (conversions requests : List Ask) → lock.conversions ≡ conversions → lock.requests ≡ requests → head_refusal lock (head conversions requests) ≡ None → IsOrderly lock → IsOrderly (granted_to lock conversions requests)
-granted_to_orderly lock (a ∷ rest) requests c q e i = converted_orderly lock a rest i c (none_against lock a.node a.mode i.holders (head_grantable lock a e))
-granted_to_orderly lock [] (a ∷ rest) c q e i = requested_orderly lock a rest i q (none_against lock a.node a.mode i.holders (head_grantable lock a e))
-granted_to_orderly lock [] [] c q e i = i
+granted_from_orderly : (lock : Lock) (conversions requests : List Ask) → lock.conversions ≡ conversions → lock.requests ≡ requests → head_refusal lock (head conversions requests) ≡ None → IsOrderly lock → IsOrderly (granted_from lock conversions requests)
+granted_from_orderly lock (a ∷ rest) requests c q e i = converted_orderly lock a rest i c (none_against lock a.node a.mode i.holders (head_grantable lock a e))
+granted_from_orderly lock [] (a ∷ rest) c q e i = requested_orderly lock a rest i q (none_against lock a.node a.mode i.holders (head_grantable lock a e))
+granted_from_orderly lock [] [] c q e i = i
 
-pub granted_orderly : (lock : Lock) → head_refusal lock (head lock.conversions lock.requests) ≡ None → IsOrderly lock → IsOrderly (granted lock)
-granted_orderly lock e i = granted_to_orderly lock lock.conversions lock.requests refl refl e i
+-- Each accepted call keeps a lock orderly.
+
+record Both (a b : Option LockError) : Type 0 where
+  first : a ≡ None
+  second : b ≡ None
+
+both : (first second : Option LockError) → or_then first second ≡ None → Both first second
+both None second e = record { first = refl; second = e }
+both (Some x) second e = cc
+
+pub ask_keeps : (lock : Lock) (n : ℕ) (mode : Mode) → IsOrderly lock → n < 16 → ask_refusal lock n ≡ None → IsOrderly (asked lock n mode)
+ask_keeps lock n mode i lt e = asked_orderly lock n mode i lt (free lock n e)
+
+taken_orderly : (lock : Lock) (n : ℕ) (mode : Mode) → IsOrderly lock → n < 16 → asks n lock.requests ≡ false → blocked lock (blocker lock n mode) ≡ None → IsOrderly (holding lock n mode)
+taken_orderly lock n mode i lt f e = holding_orderly lock n mode i lt f (none_against lock n mode i.holders (not_blocked lock _ e))
+
+pub ask_now_keeps : (lock : Lock) (n : ℕ) (mode : Mode) → IsOrderly lock → n < 16 → ask_now_refusal lock n mode ≡ None → IsOrderly (asked_now lock n mode)
+ask_now_keeps lock n mode i lt e = let b = both _ _ e in taken_orderly lock n mode i lt (free lock n b.first).asks b.second
+
+pub convert_now_keeps : (lock : Lock) (n : ℕ) (mode : Mode) → IsOrderly lock → n < 16 → convert_now_refusal lock n mode ≡ None → IsOrderly (converted_now lock n mode)
+convert_now_keeps lock n mode i lt e =
+    let b = both _ _ e in
+    taken_orderly lock n mode i lt (holder_asks_not lock n i (convertible lock n b.first).holds) b.second
+
+pub convert_keeps : (lock : Lock) (n : ℕ) (mode : Mode) (value : Option Block) → IsOrderly lock → n < 16 → convert_refusal lock n ≡ None → IsOrderly (converted lock n mode value)
+convert_keeps lock n mode value i lt e =
+    let f : Convertible lock n = convertible lock n e in
+    elim (weaker (mode_of lock n) mode) as (λ b. weaker (mode_of lock n) mode ≡ b → IsOrderly (if b then holding (with_value lock (converted_value (mode_of lock n) mode value)) n mode else queued lock n mode)) [
+      | true ↦ λ w. holding_orderly (with_value lock (converted_value (mode_of lock n) mode value)) n mode (with_value_orderly lock (converted_value (mode_of lock n) mode value) i) lt (holder_asks_not lock n i f.holds) (weaker_agrees lock n mode i f.holds w)
+      | false ↦ λ w. queued_orderly lock n mode i lt f
+    ] refl
+
+pub release_keeps : (lock : Lock) (n : ℕ) (value : Option Block) → IsOrderly lock → release_refusal lock n ≡ None → IsOrderly (released lock n value)
+release_keeps lock n value i e = released_orderly lock n value i (grind arith)
+
+pub grant_keeps : (lock : Lock) → IsOrderly lock → grant_refusal lock ≡ None → IsOrderly (granted lock)
+grant_keeps lock i e = granted_from_orderly lock lock.conversions lock.requests refl refl e i
+
+pub die_keeps : (lock : Lock) (n : ℕ) → IsOrderly lock → IsOrderly (died lock n)
+die_keeps lock n i = died_orderly lock n i

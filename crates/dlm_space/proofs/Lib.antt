@@ -3,6 +3,7 @@ pub mod GuardLaws
 pub mod PartLaws
 pub mod Kept
 pub mod Runs
+mod Changes
 pub mod Told
 pub mod Steps
 mod Examples

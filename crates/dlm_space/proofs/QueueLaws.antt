@@ -61,6 +61,24 @@ queue_rest a rest q e i = IsQueue-rest a rest (subst IsQueue e i)
 pub queue_node : (a : Ask) (rest q : List Ask) → q ≡ a ∷ rest → IsQueue q → a.node < 16
 queue_node a rest q e i = IsQueue-node a rest (subst IsQueue e i)
 
+-- the first of a queue asks in it, and is in it once
+pub asks_head : (a : Ask) (queue : List Ask) → asks a.node (a ∷ queue) ≡ true
+asks_head a queue = grind arith
+
+pub asks_rest : (a : Ask) (queue : List Ask) (m : ℕ) → asks m queue ≡ true → asks m (a ∷ queue) ≡ true
+asks_rest a queue m e = grind arith
+
+pub once_head : (a : Ask) (queue : List Ask) → IsQueue (a ∷ queue) → asks a.node queue ≡ false
+once_head a queue i = grind (arith, i.once a.node)
+
+-- without the first, and without one that is not there
+pub without-none : (n : ℕ) (queue : List Ask) → asks n queue ≡ false → without n queue ≡ queue
+without-none n [] e = refl
+without-none n (a ∷ queue) e = grind (arith, without-none n queue)
+
+pub without-head : (a : Ask) (rest : List Ask) → IsQueue (a ∷ rest) → without a.node (a ∷ rest) ≡ rest
+without-head a rest i = grind (arith, nat_tests, without-none a.node rest (once_head a rest i))
+
 kept : (gone b : Bool) (x y : Ask) (zs ws : List Ask) → b ≡ not gone → y ≡ x → zs ≡ ws → cond b (y ∷ zs) zs ≡ (if gone then ws else x ∷ ws)
 kept gone b x y zs ws e f g = grind arith
 

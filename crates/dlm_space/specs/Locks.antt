@@ -130,37 +130,37 @@ asked_now lock n mode = holding lock n mode
 abbrev pub queued : Lock → ℕ → Mode → Lock
 queued lock n mode = record lock { conversions = lock.conversions ++ ask_for n mode ∷ [] }
 
--- the given value, where a conversion from one mode to the other writes it
-abbrev pub written : Mode → Mode → Option Block → Option Block
-written from to value = if writes_value from to then value else None
+-- the given value, where a conversion from one mode to the other writes it: the table is the kernel DLM's
+abbrev pub converted_value : Mode → Mode → Option Block → Option Block
+converted_value from to value = if writes_value from to then value else None
 
 -- a weaker mode, or the same, is taken at once; else the conversion waits
 abbrev pub converted : Lock → ℕ → Mode → Option Block → Lock
 converted lock n mode value =
-    if weaker (mode_of lock n) mode then holding (with_value lock (written (mode_of lock n) mode value)) n mode else queued lock n mode
+    if weaker (mode_of lock n) mode then holding (with_value lock (converted_value (mode_of lock n) mode value)) n mode else queued lock n mode
 
 abbrev pub converted_now : Lock → ℕ → Mode → Lock
 converted_now lock n mode = holding lock n mode
 
-abbrev pub granted_to : Lock → List Ask → List Ask → Lock
-granted_to lock (a ∷ conversions) requests = record lock { held = with_at lock.held a.node (Some a.mode); conversions = conversions }
-granted_to lock [] (a ∷ requests) = record lock { held = with_at lock.held a.node (Some a.mode); requests = requests }
-granted_to lock [] [] = lock
+abbrev pub granted_from : Lock → List Ask → List Ask → Lock
+granted_from lock (a ∷ conversions) requests = record lock { held = with_at lock.held a.node (Some a.mode); conversions = conversions }
+granted_from lock [] (a ∷ requests) = record lock { held = with_at lock.held a.node (Some a.mode); requests = requests }
+granted_from lock [] [] = lock
 
 -- the first conversion, else the first request, is granted
 abbrev pub granted : Lock → Lock
-granted lock = granted_to lock lock.conversions lock.requests
+granted lock = granted_from lock lock.conversions lock.requests
 
 -- the given value, where a release of the mode writes it
-abbrev pub left : Mode → Option Block → Option Block
-left from value = if is_writer from then value else None
+abbrev pub released_value : Mode → Option Block → Option Block
+released_value from value = if is_writer from then value else None
 
 -- the node holds nothing, and its waiting conversion is dropped; its request stays
 abbrev pub let_go : Lock → ℕ → Lock
 let_go lock n = record lock { held = with_at lock.held n None; conversions = without n lock.conversions }
 
 abbrev pub released : Lock → ℕ → Option Block → Lock
-released lock n value = let_go (with_value lock (left (mode_of lock n) value)) n
+released lock n value = let_go (with_value lock (released_value (mode_of lock n) value)) n
 
 -- the node's request is dropped too, and the block is invalid where it held PW or EX
 abbrev pub died : Lock → ℕ → Lock
@@ -182,7 +182,7 @@ valid_block lock = if lock.valid then Some lock.block else None
 abbrev pub convert_answer : Lock → ℕ → Mode → Converted
 convert_answer lock n mode = if weaker (mode_of lock n) mode then Now else Queued
 
--- an ask that is granted from a mode
+-- an ask that is granted from a mode gets the block where the conversion reads it, by the same table
 abbrev pub answer_to : Lock → Mode → Ask → Granted
 answer_to lock from a = record {
   node = a.node;
@@ -192,13 +192,13 @@ answer_to lock from a = record {
 }
 
 -- a conversion is granted from the mode held, a request from NL
-abbrev pub answer_of : Lock → List Ask → List Ask → Option Granted
-answer_of lock (a ∷ conversions) requests = Some (answer_to lock (mode_of lock a.node) a)
-answer_of lock [] (a ∷ requests) = Some (answer_to lock NL a)
-answer_of lock [] [] = None
+abbrev pub answer_from : Lock → List Ask → List Ask → Option Granted
+answer_from lock (a ∷ conversions) requests = Some (answer_to lock (mode_of lock a.node) a)
+answer_from lock [] (a ∷ requests) = Some (answer_to lock NL a)
+answer_from lock [] [] = None
 
 abbrev pub grant_answer : Lock → Option Granted
-grant_answer lock = answer_of lock lock.conversions lock.requests
+grant_answer lock = answer_from lock lock.conversions lock.requests
 
 -- Callbacks.
 

@@ -4,7 +4,7 @@ use Rattle.dlm_modes.specs.Modes.{agrees, weaker, reads_value}
 use Rattle.dlm_modes.specs.declared.block.Block.{Block}
 use Rattle.dlm_modes.specs.declared.mode.Mode.{Mode}
 use Rattle.dlm_modes.specs.declared.mode.Mode.TheVariants.{NL}
-use Rattle.dlm_space.specs.Queues.{ask_for, without, head}
+use Rattle.dlm_space.specs.Queues.{ask_for, asks, without, head}
 use Rattle.dlm_space.specs.Locks.{zero_block, is_writer}
 use Rattle.dlm_space.specs.Calls.{Call, Asks, AsksNow, Converts, ConvertsNow, Grants, Releases, Dies, locks_after, AreAccepted}
 use Rattle.dlm_space.specs.declared.ask.Ask.{Ask}
@@ -82,6 +82,8 @@ pub record LockSound (past : List Call) : Type 0 where
   pub agree : (r n m : ℕ) (a b : Mode) → n ≢ m → held_in past r n ≡ Some a → held_in past r m ≡ Some b → agrees a b ≡ true
   pub conversions : (r : ℕ) → (locks_after past r).conversions ≡ conversions_in past r
   pub requests : (r : ℕ) → (locks_after past r).requests ≡ requests_in past r
+  -- who requests holds nothing, so a request is granted from NL
+  pub requester : (r n : ℕ) → asks n (requests_in past r) ≡ true → held_in past r n ≡ None
   pub block : (r : ℕ) → (locks_after past r).block ≡ block_in past r
   pub valid : (r : ℕ) → (locks_after past r).valid ≡ valid_in past r
   pub answers : AreRight past

@@ -1,6 +1,9 @@
+ghost use Rattle.std.specs.Prelude.{◌≡◌};
+ghost use Rattle.dlm_modes.specs.declared.mode.Mode.TheVariants.{NL};
+
 use dlm_modes::Mode;
 
-/// A node that asks for a mode. The node is below 16.
+/// A node, which is below 16, and the mode for which it asks.
 #[derive(Clone, Copy, PartialEq, Eq, Debug)]
 pub struct Ask {
     pub node: u8,
@@ -8,6 +11,8 @@ pub struct Ask {
 }
 
 impl Default for Ask {
+    ghost is_default = { λ a. a ≡ record { node = 0; mode = NL } };
+
     fn default() -> Ask {
         Ask {
             node: 0,

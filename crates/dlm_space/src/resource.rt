@@ -1,7 +1,7 @@
 ghost use Rattle.std.specs.Prelude.{◌≡◌, ◌<◌, ◌∷◌, [], IfNone, IfSome, IfOk, OnOk, OnErr, Some};
 ghost use Rattle.std.specs.Result.{result_err};
 ghost use Rattle.dlm_space.specs.Queues.{asks, without, head};
-ghost use Rattle.dlm_space.specs.Locks.{new_lock, mode_of, is_writer, disagrees, is_against, blocker, ask_refusal, ask_now_refusal, blocked, convert_refusal, convert_now_refusal, grant_refusal, release_refusal, holding, with_value, asked, asked_now, converted, converted_now, granted, let_go, released, died, valid_block, convert_answer, answer_to, grant_answer, caller, written, left};
+ghost use Rattle.dlm_space.specs.Locks.{new_lock, mode_of, is_writer, disagrees, is_against, blocker, ask_refusal, ask_now_refusal, blocked, convert_refusal, convert_now_refusal, grant_refusal, release_refusal, holding, with_value, asked, asked_now, converted, converted_now, granted, let_go, released, died, valid_block, convert_answer, answer_to, grant_answer, caller, converted_value, released_value};
 ghost use Rattle.dlm_space.specs.Parts.{lock_of};
 
 use crate::{Ask, Converted, Granted, LockError};
@@ -51,15 +51,15 @@ fn disagrees(mode: Mode, held: Option<Mode>) -> bool
 }
 
 // The value that a conversion between the modes writes.
-fn written(from: Mode, to: Mode, value: Option<Block>) -> Option<Block>
-    ensures { result ≡ written from to value }
+fn converted_value(from: Mode, to: Mode, value: Option<Block>) -> Option<Block>
+    ensures { result ≡ converted_value from to value }
 {
     if writes_value(from, to) { value } else { None }
 }
 
 // The value that the release of the mode writes.
-fn left(from: Mode, value: Option<Block>) -> Option<Block>
-    ensures { result ≡ left from value }
+fn released_value(from: Mode, value: Option<Block>) -> Option<Block>
+    ensures { result ≡ released_value from value }
 {
     if is_writer(from) { value } else { None }
 }
@@ -274,7 +274,7 @@ impl Resource {
             return Ok(Converted::Queued);
         }
         self.hold(node, mode);
-        self.write(written(from, mode, value));
+        self.write(converted_value(from, mode, value));
         Ok(Converted::Now)
     }
 
@@ -365,7 +365,7 @@ impl Resource {
         self.may_release(node)?;
         let from = self.mode_of(node);
         self.let_go(node);
-        self.write(left(from, value));
+        self.write(released_value(from, value));
         Ok(())
     }
 

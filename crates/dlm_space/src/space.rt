@@ -180,3 +180,11 @@ impl Space {
         Some((a.node, a.mode))
     }
 }
+
+impl Default for Space {
+    ghost is_default = { λ s. locks_of s ≡ new_locks };
+
+    fn default() -> Space {
+        Space::new()
+    }
+}
