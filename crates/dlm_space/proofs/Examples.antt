@@ -1,14 +1,14 @@
 -- The words on a list of calls, at an example, and at lists for which they are false.
-use Rattle.std.proofs.Common.{◌≡◌, ◌≢◌, ◌<◌, ℕ, List, [], ◌∷◌, true, false, Option, Some, None, unwrap_or, refl, ap, lit<}
+use Rattle.std.proofs.Common.{◌≡◌, ℕ, List, [], ◌∷◌, true, false, Option, Some, None, unwrap_or, refl, ap, lit<}
 use Rattle.dlm_modes.specs.First.{first_such}
 use Rattle.dlm_modes.specs.declared.block.Block.{Block}
 use Rattle.dlm_modes.specs.declared.mode.Mode.{Mode}
-use Rattle.dlm_modes.specs.declared.mode.Mode.TheVariants.{NL, CR, CW, PR, PW, EX}
+use Rattle.dlm_modes.specs.declared.mode.Mode.TheVariants.{NL, CR, CW, PW, EX}
 use Rattle.dlm_space.specs.Queues.{ask_for}
-use Rattle.dlm_space.specs.Locks.{zero_block, blocker}
-use Rattle.dlm_space.specs.Calls.{Call, Asks, AsksNow, Converts, ConvertsNow, Grants, Releases, Dies, refusal, IsAccepted, AreAccepted, locks_after}
-use Rattle.dlm_space.specs.Sound.{held_in, conversions_in, requests_in, block_in, valid_in, IsRight, LockSound}
-use Rattle.dlm_space.specs.declared.answers.Converted.TheVariants.{Now, Queued}
+use Rattle.dlm_space.specs.Locks.{zero_block}
+use Rattle.dlm_space.specs.Calls.{Call, Asks, AsksNow, Converts, Grants, Releases, Dies, refusal, AreAccepted, locks_after}
+use Rattle.dlm_space.specs.Sound.{held_in, block_in, valid_in, IsRight, LockSound}
+use Rattle.dlm_space.specs.declared.answers.Converted.TheVariants.{Queued}
 use Rattle.dlm_space.specs.declared.answers.Granted.{Granted}
 use Rattle.dlm_space.specs.declared.answers.LockError.TheVariants.{NotGrantable}
 

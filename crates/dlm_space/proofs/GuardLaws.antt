@@ -1,12 +1,11 @@
 -- What a guard that doesn't refuse tells.
-use Rattle.std.proofs.Common.{◌≡◌, ◌≢◌, ◌⊎◌, inl, inr, ◌<◌, ◌≤◌, ◌+◌, ℕ, List, [], ◌∷◌, Bool, true, false, not, ◌==◌, ◌&&◌, Option, Some, None, refl, sym, ap, ◌∙◌, subst, arith, if◌then◌else◌}
-use Rattle.std.specs.Prelude.{is_some, unwrap_or}
+use Rattle.std.proofs.Common.{◌≡◌, ◌≢◌, ◌⊎◌, inl, inr, ◌<◌, ◌≤◌, ℕ, true, false, Option, Some, None, refl, ap, arith}
+use Rattle.std.specs.Prelude.{is_some}
 use Rattle.std.proofs.lemmas.Bool.Decides.{nat_tests}
-use Rattle.dlm_modes.specs.First.{first_such}
 use Rattle.dlm_modes.proofs.FirstLaws.{first_such_none}
 use Rattle.dlm_modes.specs.declared.mode.Mode.{Mode}
-use Rattle.dlm_space.specs.Queues.{ask_for, asks, head}
-use Rattle.dlm_space.specs.Locks.{Lock, mode_of, disagrees, is_against, blocker, blocked, not_grantable, ask_refusal, ask_now_refusal, convert_refusal, convert_now_refusal, head_refusal, release_refusal}
+use Rattle.dlm_space.specs.Queues.{asks}
+use Rattle.dlm_space.specs.Locks.{Lock, disagrees, is_against, blocker, blocked, not_grantable, ask_refusal, convert_refusal, head_refusal}
 use Rattle.dlm_space.specs.declared.ask.Ask.{Ask}
 
 -- the node neither holds nor asks

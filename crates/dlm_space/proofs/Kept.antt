@@ -1,12 +1,12 @@
 -- What each call keeps of a lock.
-use Rattle.std.proofs.Common.{◌≡◌, ◌≢◌, ◌<◌, ◌≤◌, ℕ, List, [], ◌∷◌, ◌++◌, Bool, true, false, not, ◌==◌, ◌&&◌, Option, Some, None, refl, sym, ap, ◌∙◌, subst, arith, if◌then◌else◌}
+use Rattle.std.proofs.Common.{◌≡◌, ◌≢◌, ◌<◌, ℕ, List, [], ◌∷◌, Bool, true, false, not, Option, Some, None, refl, sym, ap, subst, arith, if◌then◌else◌}
 use Rattle.std.specs.Prelude.{is_some, unwrap_or}
 use Rattle.std.proofs.lemmas.Bool.Decides.{nat_tests}
-use Rattle.dlm_modes.specs.Modes.{agrees, weaker}
+use Rattle.dlm_modes.specs.Modes.{weaker}
 use Rattle.dlm_modes.specs.declared.block.Block.{Block}
 use Rattle.dlm_modes.specs.declared.mode.Mode.{Mode}
 use Rattle.dlm_modes.specs.declared.mode.Mode.TheVariants.{NL}
-use Rattle.dlm_space.specs.Queues.{ask_for, asks_of, asks, without, head}
+use Rattle.dlm_space.specs.Queues.{ask_for, asks, head}
 use Rattle.dlm_space.specs.Locks.{Lock, new_lock, with_at, mode_of, disagrees, or_then, blocker, blocked, ask_refusal, ask_now_refusal, convert_refusal, convert_now_refusal, head_refusal, grant_refusal, release_refusal, holding, with_value, asked, asked_now, queued, converted_value, converted, converted_now, granted_from, granted, released, died}
 use Rattle.dlm_space.specs.Parts.{IsQueue}
 use Rattle.dlm_space.specs.Orderly.{agree, IsOrderly}

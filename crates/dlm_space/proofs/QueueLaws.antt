@@ -1,10 +1,10 @@
 -- Queues: what is asked in one that changes, and that there is room in it.
-use Rattle.std.proofs.Common.{◌≡◌, ◌≢◌, ◌<◌, ◌≤◌, ◌+◌, ℕ, zero, suc, length, List, [], ◌∷◌, ◌++◌, Bool, true, false, not, ◌==◌, ◌||◌, cond, Option, Some, None, get_or, refl, sym, ap, ◌∙◌, subst, arith, if◌then◌else◌}
+use Rattle.std.proofs.Common.{◌≡◌, ◌≢◌, ◌<◌, ◌≤◌, ◌+◌, ℕ, zero, suc, length, List, [], ◌∷◌, ◌++◌, Bool, true, false, not, ◌==◌, cond, Some, refl, sym, ap, ◌∙◌, subst, arith, if◌then◌else◌}
 use Rattle.std.specs.List.{list_any, slice_get}
 use Rattle.std.specs.List.Retain.{RetainsInTurn}
 use Rattle.std.proofs.lemmas.Bool.Decides.{nat_tests}
 use Rattle.dlm_modes.specs.declared.mode.Mode.{Mode}
-use Rattle.dlm_space.specs.Queues.{ask_for, asks_of, asks, without, head}
+use Rattle.dlm_space.specs.Queues.{ask_for, asks_of, asks, without}
 use Rattle.dlm_space.specs.Parts.{IsQueue}
 use Rattle.dlm_space.specs.declared.ask.Ask.{Ask}
 

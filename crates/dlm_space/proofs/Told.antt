@@ -1,21 +1,16 @@
 -- What a list of accepted calls tells of the locks after it.
-use Rattle.std.proofs.Common.{◌≡◌, ◌≢◌, ◌<◌, ◌≤◌, ℕ, List, [], ◌∷◌, ◌++◌, Bool, true, false, not, ◌==◌, ◌&&◌, ◌||◌, cond, Option, Some, None, refl, sym, ap, ◌∙◌, subst, arith, if◌then◌else◌}
-use Rattle.std.specs.Prelude.{is_some, is_none, unwrap_or}
-use Rattle.std.proofs.lemmas.Bool.Decides.{nat_tests}
-use Rattle.dlm_modes.specs.Modes.{agrees, weaker, writes_value, reads_value}
+use Rattle.std.proofs.Common.{◌≡◌, ℕ, List, [], ◌∷◌, ◌++◌, Bool, true, false, not, ◌==◌, ◌&&◌, Option, Some, None, refl, sym, ap, ◌∙◌, arith, if◌then◌else◌}
+use Rattle.std.specs.Prelude.{unwrap_or}
+use Rattle.dlm_modes.specs.Modes.{agrees, weaker}
 use Rattle.dlm_modes.specs.declared.block.Block.{Block}
 use Rattle.dlm_modes.specs.declared.mode.Mode.{Mode}
 use Rattle.dlm_modes.specs.declared.mode.Mode.TheVariants.{NL}
-use Rattle.dlm_space.specs.Queues.{ask_for, asks_of, asks, without, head}
-use Rattle.dlm_space.specs.Locks.{Lock, with_at, mode_of, is_writer, disagrees, convert_refusal, holding, with_value, queued, converted_value, released_value, converted, granted_from, granted, released, died, all_died, answer_to, answer_from, grant_answer, convert_answer, valid_block, asked}
-use Rattle.dlm_space.specs.Parts.{IsQueue}
+use Rattle.dlm_space.specs.Queues.{ask_for, without}
+use Rattle.dlm_space.specs.Locks.{Lock, mode_of, is_writer, holding, queued, released_value, converted, granted, released, valid_block, asked}
 use Rattle.dlm_space.specs.Calls.{Call, Asks, AsksNow, Converts, ConvertsNow, Grants, Releases, Dies, IsAccepted, AreAccepted, locks_after}
-use Rattle.dlm_space.specs.Orderly.{agree, IsOrderly}
+use Rattle.dlm_space.specs.Orderly.{agree}
 use Rattle.dlm_space.specs.Sound.{held_in, conversions_in, requests_in, block_in, valid_in, mode_in, holds_writer, IsRight, AreRight, LockSound}
-use Rattle.dlm_space.specs.declared.ask.Ask.{Ask}
-use Rattle.dlm_space.specs.declared.answers.Converted.{Converted}
 use Rattle.dlm_space.specs.declared.answers.Converted.TheVariants.{Now, Queued}
-use Rattle.dlm_space.specs.declared.answers.Granted.{Granted}
 use Rattle.dlm_space.proofs.Changes.{changed, stays, held_after, written_at, writer, block_written, valid_written, none_written, Serves, serves, Takes, takes, waits}
 use Rattle.dlm_space.proofs.Runs.{runs_orderly}
 

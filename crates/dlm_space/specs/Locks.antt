@@ -155,14 +155,14 @@ granted lock = granted_from lock lock.conversions lock.requests
 abbrev pub released_value : Mode → Option Block → Option Block
 released_value from value = if is_writer from then value else None
 
--- the node holds nothing, and its waiting conversion is dropped; its request stays
+-- the node holds nothing, and its waiting conversion is dropped
 abbrev pub let_go : Lock → ℕ → Lock
 let_go lock n = record lock { held = with_at lock.held n None; conversions = without n lock.conversions }
 
 abbrev pub released : Lock → ℕ → Option Block → Lock
 released lock n value = let_go (with_value lock (released_value (mode_of lock n) value)) n
 
--- the node's request is dropped too, and the block is invalid where it held PW or EX
+-- its request is dropped too, and the block is invalid where it held PW or EX
 abbrev pub died : Lock → ℕ → Lock
 died lock n = record (let_go lock n) {
   requests = without n lock.requests;

@@ -1,5 +1,5 @@
 -- What a lock space keeps of its resources, as plain data, and the locks that it stands for.
-use Rattle.std.specs.Prelude.{◌≡◌, ℕ, ◌≤◌, length, slice_index_or, Bool, true, List, [], Option, Some, None}
+use Rattle.std.specs.Prelude.{◌≡◌, ℕ, ◌≤◌, length, slice_index_or, Bool, true, List, [], Option, None}
 use Rattle.dlm_modes.specs.declared.block.Block.{Block}
 use Rattle.dlm_modes.specs.declared.mode.Mode.{Mode}
 use Rattle.dlm_space.specs.Queues.{asks_of}

@@ -1,5 +1,5 @@
 use Rattle.std.proofs.Common.{◌<◌, length, arith}
-use Rattle.dlm_space.proofs.PartLaws.{locks_of-one_more, locks_of-all_died}
+use Rattle.dlm_space.proofs.PartLaws.{locks_of-one_more}
 use Rattle.dlm_space.proofs.space.leave_all.Goals as goal
 
 pub loop-resource-preserved : goal.loop-resource-preserved

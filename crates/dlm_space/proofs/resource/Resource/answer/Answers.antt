@@ -1,4 +1,3 @@
-use Rattle.std.proofs.Common.{◌∙◌}
 use Rattle.dlm_space.proofs.QueueLaws.{first_node}
 use Rattle.dlm_space.proofs.resource.Resource.answer.Goals as goal
 

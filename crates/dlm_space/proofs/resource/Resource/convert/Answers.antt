@@ -1,4 +1,4 @@
-use Rattle.std.proofs.Common.{◌≡◌, ◌<◌, length, sym, refl, arith}
+use Rattle.std.proofs.Common.{◌<◌, length, sym, arith}
 use Rattle.dlm_space.specs.Parts.{lock_of}
 use Rattle.dlm_space.proofs.GuardLaws.{Convertible, convertible}
 use Rattle.dlm_space.proofs.QueueLaws.{IsQueue-push, room}
