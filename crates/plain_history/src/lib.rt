@@ -1,0 +1,16 @@
+//! The plain history of a trace: the writes and reads of each sector with their values, and no legs,
+//! locks or views.
+#![tactic(auto)]
+
+ghost use Rattle.plain_history.specs.Seen.{FinishedWritesAreSeen};
+
+mod asked;
+mod values;
+
+pub use asked::{AskedRead, AskedWrite};
+
+/// After the end of a write, each later read of its sector in a legal trace gives that write's value, or
+/// the value of a write that started after that end.
+pub fn finished_writes_are_seen()
+    ensures { FinishedWritesAreSeen }
+{}
