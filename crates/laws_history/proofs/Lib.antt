@@ -1,0 +1,5 @@
+mod Flying
+mod Seeing
+mod Having
+pub mod Places
+pub mod Runs
