@@ -9,7 +9,7 @@ use Rattle.plain_history.specs.History.{values_at, live_writes, asked_reads}
 use Rattle.plain_history.proofs.Members.{IsIn-from_contains}
 use Rattle.cluster_model.specs.State.{State}
 use Rattle.cluster_model.specs.Opening.{Origin, IsOrigin, Opens, core_at, of_member}
-use Rattle.laws_history.specs.Inv.{Roles, Flights, Agrees, Contents}
+use Rattle.laws_history.specs.Invariants.{Roles, Flights, Agrees, Contents}
 
 member_works : (o : Origin) (r : Role) (n : ℕ) (b : Bool) → has_bit o.members n ≡ b → of_member o n r Spare ≡ Working → r ≡ Working
 member_works o r n true is w = grind (arith, is, w)

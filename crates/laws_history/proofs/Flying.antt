@@ -1,18 +1,17 @@
 -- What a change of the state keeps of the writes and reads in flight.
-use Rattle.std.proofs.Common.{◌≡◌, ◌≢◌, ℕ, ◌<◌, ◌==◌, ◌||◌, true, false, List, [], ◌∷◌, Some, None, arith}
-use Rattle.std.proofs.lemmas.Bool.Decides.{nat_tests}
+use Rattle.std.proofs.Common.{◌≡◌, ◌≢◌, ℕ, ◌<◌, false, List, [], ◌∷◌, Some, None, arith}
 use Rattle.mdc_types.specs.Geometry.{nodes_of}
 use Rattle.mdc_types.specs.declared.numbers.Sector.{Sector}
 use Rattle.mdc_types.specs.declared.outcomes.Outcome.{Outcome}
-use Rattle.mdc_types.specs.declared.outcomes.Outcome.TheVariants.{Done, Write, Read, Value, Lost, Io}
+use Rattle.mdc_types.specs.declared.outcomes.Outcome.TheVariants.{Done, Value, Lost, Io}
 use Rattle.mdc_types.specs.declared.events.Event.TheVariants.{AskWrite, Out, EndWrite, AskRead, In}
 use Rattle.mirror_io.specs.declared.live.LiveWrite.{LiveWrite}
 use Rattle.mirror_io.specs.Flight.{write_in, read_in}
-use Rattle.mirror_io.proofs.Lookups.{write_in-push, write_in-without, write_in-start, write_in-done, is_done-done_on, read_in-push, read_in-without}
+use Rattle.mirror_io.proofs.Lookups.{write_in-push, write_in-without, write_in-start, write_in-done, read_in-push, read_in-without}
 use Rattle.cluster_model.specs.State.{Core}
 use Rattle.cluster_model.specs.Table.{any_of_sector}
 use Rattle.cluster_model.specs.Effects.{after}
-use Rattle.laws_history.specs.Inv.{Flights}
+use Rattle.laws_history.specs.Invariants.{Flights}
 
 -- none is of the sector
 any_of_sector-none : (s k : ℕ) (ws : List LiveWrite) (w : LiveWrite) → any_of_sector s ws ≡ false → write_in k ws ≡ Some w → w.sector ≢ s

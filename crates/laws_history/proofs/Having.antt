@@ -1,11 +1,11 @@
 -- What a change of the state keeps of what the legs have.
-use Rattle.std.proofs.Common.{◌≡◌, ◌⊎◌, ℕ, ◌<◌, true, false, List, Some, None, refl, inl, inr, arith}
+use Rattle.std.proofs.Common.{◌≡◌, ◌⊎◌, ℕ, true, List, Some, None, inl, inr, arith}
 use Rattle.mdc_types.specs.declared.numbers.Sector.{Sector}
 use Rattle.mdc_types.specs.declared.roles.Role.{Role}
 use Rattle.mdc_types.specs.declared.roles.Role.TheVariants.{Working}
 use Rattle.mdc_types.specs.declared.outcomes.Outcome.{Outcome}
-use Rattle.mdc_types.specs.declared.outcomes.Outcome.TheVariants.{Done, Write, Read, Value, Lost, Io}
-use Rattle.mdc_types.specs.declared.events.Event.TheVariants.{AskWrite, Out, EndWrite, AskRead, In}
+use Rattle.mdc_types.specs.declared.outcomes.Outcome.TheVariants.{Done, Lost, Io}
+use Rattle.mdc_types.specs.declared.events.Event.TheVariants.{AskWrite, Out, EndWrite}
 use Rattle.mirror_io.specs.declared.live.LiveWrite.{LiveWrite}
 use Rattle.mirror_io.specs.Flight.{write_in, is_done}
 use Rattle.mirror_io.proofs.Lookups.{write_in-push, write_in-without, write_in-start, write_in-done, is_done-done_on}
@@ -14,7 +14,7 @@ use Rattle.plain_history.proofs.Members.{IsIn-last, IsIn-kept}
 use Rattle.cluster_model.specs.State.{Core, Legs, place_of}
 use Rattle.cluster_model.specs.Effects.{after}
 use Rattle.cluster_model.specs.Run.{put}
-use Rattle.laws_history.specs.Inv.{Flights, Contents, plain_of}
+use Rattle.laws_history.specs.Invariants.{Flights, Contents, plain_of}
 
 module _ (role : ℕ → Role) (values : ℕ → List Sector) (core : Core) (legs : Legs) (i : Contents role values core legs) where
   pub ask_write_having : (n s : ℕ) (v : Sector) (o : Outcome) → write_in (core.writes_made n) (core.writes n) ≡ None → Contents role values (after core (AskWrite n s v) o) legs

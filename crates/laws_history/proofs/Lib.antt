@@ -5,3 +5,4 @@ mod Working
 mod Beginning
 pub mod Places
 pub mod Runs
+mod Examples

@@ -1,12 +1,10 @@
 -- Places of a run, and what no event changes.
-use Rattle.std.proofs.Common.{◌≡◌, inl, inr, ℕ, List, [], ◌∷◌, ◌++◌, refl, ap, ◌∙◌, arith}
+use Rattle.std.proofs.Common.{◌≡◌, inl, inr, ℕ, [], ◌∷◌, refl, ap, ◌∙◌, arith}
 use Rattle.mdc_types.specs.declared.events.Event.{Event}
 use Rattle.mdc_types.specs.declared.outcomes.Outcome.{Outcome}
-use Rattle.mdc_types.specs.declared.outcomes.Entry.{Entry}
-use Rattle.cluster_model.specs.State.{Core, Legs, State}
-use Rattle.cluster_model.specs.Run.{Run}
+use Rattle.cluster_model.specs.State.{Core, Legs}
 use Rattle.laws_sound.proofs.Ways.{Way, way_of, writes, puts, puts_io, puts_lost, ends, reads, gets, gets_io, gets_lost}
-use Rattle.laws_history.specs.Laws.{Place, RunsHavePlaces, LegsKeepTelling}
+use Rattle.laws_history.specs.Laws.{RunsHavePlaces, LegsKeepTelling}
 
 pub runs_cut : RunsHavePlaces
 runs_cut start past [] end run = record { state = end; before = run; after = refl }

@@ -1,5 +1,5 @@
 -- Along each run.
-use Rattle.std.proofs.Common.{◌≡◌, ◌⊎◌, ◌∙◌, ℕ, true, List, [], ◌∷◌, Some, refl, sym, ap, subst, arith}
+use Rattle.std.proofs.Common.{◌≡◌, ◌∙◌, ℕ, true, List, [], ◌∷◌, Some, refl, sym, ap, subst, arith}
 use Rattle.mdc_types.specs.Roles.{role_of}
 use Rattle.mdc_types.specs.declared.numbers.Sector.{Sector}
 use Rattle.mdc_types.specs.declared.events.Event.{Event}
@@ -10,7 +10,7 @@ use Rattle.mdc_types.specs.declared.roles.Role.{Role}
 use Rattle.mdc_types.specs.declared.roles.Role.TheVariants.{Working}
 use Rattle.mirror_io.specs.declared.live.LiveWrite.{LiveWrite}
 use Rattle.mirror_io.specs.Flight.{write_in}
-use Rattle.plain_history.specs.History.{live_step, live_writes, asked_step, asked_reads, candidates, values_at, values_step, with_start, with_end, Legal, LegalEntry}
+use Rattle.plain_history.specs.History.{live_step, live_writes, asked_step, asked_reads, candidates, values_at, values_step, with_start, with_end, LegalEntry}
 use Rattle.cluster_model.specs.State.{Core, Legs, State}
 use Rattle.cluster_model.specs.Effects.{after}
 use Rattle.cluster_model.specs.Run.{Run, Step}
@@ -19,7 +19,7 @@ use Rattle.laws_sound.specs.Sound.{Sound}
 use Rattle.laws_sound.proofs.Ways.{Way, way_of, writes, puts, puts_io, puts_lost, ends, reads, gets, gets_io, gets_lost}
 use Rattle.laws_sound.proofs.Steps.{sound_step}
 use Rattle.laws_sound.proofs.Runs.{runs_sound}
-use Rattle.laws_history.specs.Inv.{Roles, Flights, Agrees, Contents, plain_of}
+use Rattle.laws_history.specs.Invariants.{Roles, Flights, Agrees, Contents, plain_of}
 use Rattle.laws_history.specs.Laws.{RunsAreLegal, RunsServeNoStaleLeg}
 use Rattle.laws_history.proofs.Flying.{new_write_number, new_read_number, no_writer, ask_write_flying, done_flying, io_flying, lost_flying, end_flying, ask_read_flying, value_flying, read_io_flying, read_lost_flying}
 use Rattle.laws_history.proofs.Seeing.{ask_write_seen, done_seen, io_seen, lost_seen, end_seen, ask_read_seen, value_seen, read_io_seen, read_lost_seen}
@@ -142,8 +142,7 @@ pub runs_legal : RunsAreLegal
 runs_legal o start [] end opens tell run = tt
 runs_legal o start (x ∷ past) end opens tell run =
     let a = run_along o start past run.0 opens run.1 in
-    let w = way_of run.0 x.event x.outcome end run.2 in
-    (
+    let w = way_of run.0 x.event x.outcome end run.2 in (
       legal _ _ past run.0.core run.0.legs _ _ _ _ w a.core a.now (λ l works. legs_tell start past run.0 run.1 l ∙ tell l works),
       runs_legal o start past run.0 opens tell run.1,
     )

@@ -9,7 +9,7 @@ use Rattle.mirror_io.proofs.Lookups.{write_in-push, write_in-without, write_in-s
 use Rattle.plain_history.specs.History.{PlainWrite, live_step, asked_step}
 use Rattle.cluster_model.specs.State.{Core}
 use Rattle.cluster_model.specs.Effects.{after}
-use Rattle.laws_history.specs.Inv.{Agrees}
+use Rattle.laws_history.specs.Invariants.{Agrees}
 
 module _ (writes : ℕ → ℕ → Option PlainWrite) (reads : ℕ → ℕ → Option ℕ) (core : Core) (i : Agrees writes reads core) where
   pub ask_write_seen : (n s : ℕ) (v : Sector) (k : ℕ) → k ≡ core.writes_made n → write_in (core.writes_made n) (core.writes n) ≡ None

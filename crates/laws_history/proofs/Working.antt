@@ -1,11 +1,10 @@
 -- Which legs a node reads and writes.
-use Rattle.std.proofs.Common.{◌≡◌, ℕ, ◌&&◌, Bool, true, false, Some, refl, subst, arith, if◌then◌else◌}
+use Rattle.std.proofs.Common.{◌≡◌, ℕ, Bool, true, false, Some, refl, subst, arith, if◌then◌else◌}
 use Rattle.dlm_modes.proofs.FirstLaws.{first_such_some}
 use Rattle.mdc_types.specs.Roles.{is_working}
 use Rattle.mdc_types.specs.declared.roles.Role.{Role}
 use Rattle.mdc_types.specs.declared.roles.Role.TheVariants.{Working}
 use Rattle.read_balance.specs.Choice.{nearest_leg}
-use Rattle.mirror_io.specs.declared.live.LiveWrite.{LiveWrite}
 use Rattle.mirror_io.specs.declared.live.LiveRead.{LiveRead}
 use Rattle.mirror_io.specs.Flight.{is_done}
 use Rattle.cluster_model.specs.State.{Core, works}
@@ -13,7 +12,7 @@ use Rattle.cluster_model.specs.Effects.{read_leg}
 use Rattle.cluster_model.proofs.Guards.{EndAt}
 use Rattle.laws_sound.specs.Sound.{Sound}
 use Rattle.laws_sound.proofs.Legs.{some_leg}
-use Rattle.laws_history.specs.Inv.{Roles, Flights}
+use Rattle.laws_history.specs.Invariants.{Roles, Flights}
 
 working : (r : Role) → is_working r ≡ true → r ≡ Working
 working r is = grind arith

@@ -1,2 +1,2 @@
 pub mod Laws
-pub mod Inv
+pub mod Invariants

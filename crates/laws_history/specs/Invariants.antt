@@ -1,6 +1,6 @@
 -- What holds all along a run, of the state and of the plain history.
 use Rattle.std.specs.Prelude.{◌≡◌, ◌<◌, ℕ, true, List, Option, Some, None}
-use Rattle.mdc_types.specs.Geometry.{Sizes, nodes_of}
+use Rattle.mdc_types.specs.Geometry.{nodes_of}
 use Rattle.mdc_types.specs.declared.numbers.Sector.{Sector}
 use Rattle.mdc_types.specs.declared.roles.Role.{Role}
 use Rattle.mdc_types.specs.declared.roles.Role.TheVariants.{Working}
