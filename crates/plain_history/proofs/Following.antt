@@ -1,5 +1,6 @@
 -- The tables follow the trace.
-use Rattle.std.proofs.Common.{◌↔◌, ◌≡◌, ℕ, zero, suc, ◌<◌, ◌==◌, ◌&&◌, Bool, true, false, List, [], ◌∷◌, ◌++◌, Option, Some, None, length, refl, sym, subst, arith, set, if◌then◌else◌}
+use Rattle.std.proofs.Common.{◌↔◌, ◌≢◌, not, IsTrue, ap, ◌≡◌, ℕ, zero, suc, ◌<◌, ◌==◌, ◌&&◌, Bool, true, false, List, [], ◌∷◌, ◌++◌, Option, Some, None, length, refl, sym, subst, arith, set, if◌then◌else◌}
+use Rattle.std.specs.Prelude.{slice_set}
 use Rattle.std.proofs.Math.ListN.{length-set}
 use Rattle.std.proofs.Math.Path.{fun_ext}
 use Rattle.mdc_types.specs.declared.numbers.Sector.{Sector}
@@ -10,10 +11,10 @@ use Rattle.mdc_types.specs.declared.outcomes.Outcome.TheVariants.{Write, Read, L
 use Rattle.mdc_types.specs.declared.outcomes.Entry.{Entry}
 use Rattle.plain_history.specs.declared.asked.AskedWrite.{AskedWrite}
 use Rattle.plain_history.specs.declared.asked.AskedRead.{AskedRead}
-use Rattle.plain_history.specs.History.{PlainWrite, start, live_writes, asked_reads, candidates, LegalAfter, live_step, asked_step, values_step, with_start, with_end, IsIn, HasBegun, values_at, LegalEntry}
-use Rattle.plain_history.specs.Asked.{write_in, new_write, without_write}
+use Rattle.plain_history.specs.History.{PlainWrite, start, live_writes, asked_reads, candidates, LegalAfter, live_step, asked_step, values_step, with_start, with_end, IsIn, IsFree, HasBegun, values_at, LegalEntry}
+use Rattle.plain_history.specs.Asked.{write_in, any_of_sector, start_in, new_write, without_write}
 use Rattle.plain_history.specs.Tables.{Tables, plain_of, writes_of, reads_of, Agrees, Follows, AreDistinct, IsTidy, IsWithin, LegalIn, ask_write, start_write, start_and_break, end_write, break_write, ask_read, end_read, die, settle, start_values, end_values, tables_after}
-use Rattle.plain_history.proofs.Lookups.{write_in-without, write_in-without_of, write_in-start, write_in-last, read_in-without, read_in-without_of, read_in-last, values_at-set, distinct-without, distinct-without_of, distinct-start, distinct-last}
+use Rattle.plain_history.proofs.Lookups.{any_of_sector-found, any_of_sector-none, write_in-without, write_in-without_of, write_in-start, write_in-last, read_in-without, read_in-without_of, read_in-last, values_at-set, distinct-without, distinct-without_of, distinct-start, distinct-last}
 
 -- candidates have a sector with a list
 pub within_from_candidate : (lists : List (List Sector)) (s : ℕ) (v : Sector) → IsIn v (values_at lists s) → s < length lists
@@ -85,6 +86,19 @@ module _ (t : Tables) (i : IsTidy t) where
 
   pub tidy-settle : (s : ℕ) (v : Sector) → IsTidy (settle t s v)
   tidy-settle s v = record { distinct = i.distinct; within = grind (arith, length-set) }
+
+  -- one part of the change of a start or of an end
+  pub tidy-started : (n k : ℕ) → IsTidy (record t { writes = start_in n k t.writes })
+  tidy-started n k = record {
+    distinct = distinct-start n k t.writes i.distinct;
+    within = grind (arith, write_in-start);
+  }
+
+  pub tidy-decided : (n k s : ℕ) (vs : List Sector) → IsTidy (record t { writes = without_write n k t.writes; values = slice_set t.values s vs })
+  tidy-decided n k s vs = record {
+    distinct = distinct-without n k t.writes i.distinct;
+    within = grind (arith, write_in-without, length-set);
+  }
 
   pub tidy_after : (e : Event) (o : Outcome) → IsWithin (length t.values) e → IsTidy (tables_after t e o)
   tidy_after (AskWrite n s v) (Write k) lt = tidy-ask_write n k s v lt
@@ -188,3 +202,22 @@ LegalAfter-in base past t x follows tidy =
 
 pub Follows-after : (base : ℕ → List Sector) (past : List Entry) (t : Tables) (x : Entry) → Follows base past t → IsTidy t → LegalIn t x.event x.outcome → Follows base (x ∷ past) (tables_after t x.event x.outcome)
 Follows-after base past t x follows tidy legal = agrees_after (live_writes past) (asked_reads past) (candidates base past) t follows tidy x.event x.outcome legal
+
+-- whether a live write is of the sector
+
+not_of_sector : (s : ℕ) (found : Option AskedWrite) (w : PlainWrite) → plain_of found ≡ Some w → ((a : AskedWrite) → found ≡ Some a → a.sector ≢ s) → w.sector ≢ s
+not_of_sector s None w is other = cc
+not_of_sector s (Some a) w is other = grind (arith, other a refl)
+
+free_from : (t : Tables) (s : ℕ) (any : Bool) → any_of_sector s t.writes ≡ any → IsTidy t → IsTrue (not any) → IsFree (writes_of t) s
+free_from t s false is tidy passes = λ n k w live. not_of_sector s (write_in n k t.writes) w live (λ a found. any_of_sector-none s n k t.writes a is found)
+free_from t s true is tidy fails = cc
+
+free_to : (t : Tables) (s : ℕ) (any : Bool) → any_of_sector s t.writes ≡ any → IsTidy t → IsFree (writes_of t) s → IsTrue (not any)
+free_to t s false is tidy free = refl
+free_to t s true is tidy free =
+    let f = any_of_sector-found s t.writes tidy.distinct is in
+    absurd (free f.node f.number _ (ap plain_of f.found) f.sector)
+
+pub free_test : (t : Tables) (s : ℕ) → IsTidy t → IsTrue (not (any_of_sector s t.writes)) ↔ IsFree (writes_of t) s
+free_test t s tidy = (free_from t s (any_of_sector s t.writes) refl tidy, free_to t s (any_of_sector s t.writes) refl tidy)

@@ -6,3 +6,4 @@ mod Recursions
 pub mod Lookups
 pub mod Following
 mod Scans
+pub mod Traces

@@ -2,3 +2,4 @@ pub mod History
 pub mod Seen
 pub mod Asked
 pub mod Tables
+pub mod Runs

@@ -17,6 +17,9 @@ pub record Tables : Type 0 where
   -- by sector
   pub values : List (List Sector)
 
+abbrev pub tables_of : List AskedWrite → List AskedRead → List (List Sector) → Tables
+tables_of writes reads values = record { writes = writes; reads = reads; values = values }
+
 -- a write as the history has it
 abbrev pub plain_of : Option AskedWrite → Option PlainWrite
 plain_of None = None

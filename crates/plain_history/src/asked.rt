@@ -104,10 +104,16 @@ fn start_one(w: &mut AskedWrite, n: NodeId, k: WriteNo)
     }
 }
 
-pub fn start(writes: &mut [AskedWrite], n: NodeId, k: WriteNo)
+fn start_each(writes: &mut [AskedWrite], n: NodeId, k: WriteNo)
     ensures { writes.new ≡ start_in n k writes.old }
 {
     for w in writes.iter_mut() {
         start_one(w, n, k);
     }
+}
+
+pub fn start(writes: &mut Vec<AskedWrite>, n: NodeId, k: WriteNo)
+    ensures { writes.new.items ≡ start_in n k writes.old.items }
+{
+    start_each(writes, n, k);
 }

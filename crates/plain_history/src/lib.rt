@@ -5,9 +5,13 @@
 ghost use Rattle.plain_history.specs.Seen.{FinishedWritesAreSeen};
 
 mod asked;
+mod checks;
+mod plain;
 mod values;
 
 pub use asked::{AskedRead, AskedWrite};
+pub use checks::{Checked, check};
+pub use plain::{Plain, PlainEnd};
 
 /// After the end of a write, each later read of its sector in a legal trace gives that write's value, or
 /// the value of a write that started after that end.

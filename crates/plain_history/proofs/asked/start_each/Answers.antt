@@ -3,7 +3,7 @@ use Rattle.std.proofs.lemmas.List.{get_or_default}
 use Rattle.std.proofs.lemmas.List.Edits.{map_over_more}
 use Rattle.plain_history.specs.Asked.{started}
 use Rattle.plain_history.proofs.Recursions.{start_in-is, all_changed}
-use Rattle.plain_history.proofs.asked.start.Goals as goal
+use Rattle.plain_history.proofs.asked.start_each.Goals as goal
 
 pub loop-w-preserved : goal.loop-w-preserved
 loop-w-preserved c =
