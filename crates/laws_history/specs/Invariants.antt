@@ -11,7 +11,7 @@ use Rattle.mirror_io.specs.Flight.{write_in, read_in, is_done}
 use Rattle.plain_history.specs.History.{PlainWrite, IsIn}
 use Rattle.cluster_model.specs.State.{Core, Legs, place_of}
 
--- the roles of the opening are those of each up node, and none else works
+-- at each up node the legs of the opening's roles work, lost or not, and at no node any other
 pub record Roles (role : ℕ → Role) (core : Core) : Type 0 where
   pub works : (n l : ℕ) → core.role n l ≡ Working → role l ≡ Working
   pub up : (n l : ℕ) → core.state n ≡ Up → role l ≡ Working → core.role n l ≡ Working
