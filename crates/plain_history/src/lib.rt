@@ -10,7 +10,7 @@ mod plain;
 mod values;
 
 pub use asked::{AskedRead, AskedWrite};
-pub use checks::{Checked, check};
+pub use checks::{Checked, check, fits, is_within};
 pub use plain::{Plain, PlainEnd};
 
 /// After the end of a write, each later read of its sector in a legal trace gives that write's value, or
