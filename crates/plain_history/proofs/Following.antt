@@ -1,5 +1,5 @@
 -- The tables follow the trace.
-use Rattle.std.proofs.Common.{◌↔◌, ◌≢◌, not, IsTrue, ap, ◌≡◌, ℕ, zero, suc, ◌<◌, ◌==◌, ◌&&◌, Bool, true, false, List, [], ◌∷◌, ◌++◌, Option, Some, None, length, refl, sym, subst, arith, set, if◌then◌else◌}
+use Rattle.std.proofs.Common.{◌↔◌, ◌≢◌, not, IsTrue, ap, ◌≡◌, ℕ, zero, suc, ◌<◌, ◌==◌, ◌&&◌, Bool, true, false, List, [], ◌∷◌, Option, Some, None, length, refl, arith, if◌then◌else◌}
 use Rattle.std.specs.Prelude.{slice_set}
 use Rattle.std.proofs.Math.ListN.{length-set}
 use Rattle.std.proofs.Math.Path.{fun_ext}
@@ -10,10 +10,9 @@ use Rattle.mdc_types.specs.declared.outcomes.Outcome.{Outcome}
 use Rattle.mdc_types.specs.declared.outcomes.Outcome.TheVariants.{Write, Read, Lost, Io, Settled}
 use Rattle.mdc_types.specs.declared.outcomes.Entry.{Entry}
 use Rattle.plain_history.specs.declared.asked.AskedWrite.{AskedWrite}
-use Rattle.plain_history.specs.declared.asked.AskedRead.{AskedRead}
-use Rattle.plain_history.specs.History.{PlainWrite, start, live_writes, asked_reads, candidates, LegalAfter, live_step, asked_step, values_step, with_start, with_end, IsIn, IsFree, HasBegun, values_at, LegalEntry}
+use Rattle.plain_history.specs.History.{PlainWrite, start, live_writes, asked_reads, candidates, LegalAfter, live_step, asked_step, values_step, with_start, with_end, IsIn, IsFree, values_at, LegalEntry}
 use Rattle.plain_history.specs.Asked.{write_in, any_of_sector, start_in, new_write, without_write}
-use Rattle.plain_history.specs.Tables.{Tables, plain_of, writes_of, reads_of, Agrees, Follows, AreDistinct, IsTidy, IsWithin, LegalIn, ask_write, start_write, start_and_break, end_write, break_write, ask_read, end_read, die, settle, start_values, end_values, tables_after}
+use Rattle.plain_history.specs.Tables.{Tables, plain_of, writes_of, reads_of, Agrees, Follows, IsTidy, IsWithin, LegalIn, ask_write, start_write, start_and_break, end_write, break_write, ask_read, end_read, die, settle, start_values, end_values, tables_after}
 use Rattle.plain_history.proofs.Lookups.{any_of_sector-found, any_of_sector-none, write_in-without, write_in-without_of, write_in-start, write_in-last, read_in-without, read_in-without_of, read_in-last, values_at-set, distinct-without, distinct-without_of, distinct-start, distinct-last}
 
 -- candidates have a sector with a list

@@ -1,5 +1,5 @@
 -- What a plain history keeps of its trace: the live writes, the asked reads, and the candidates of each sector.
-use Rattle.std.specs.Prelude.{◌≡◌, ◌<◌, ℕ, true, if◌then◌else◌, length, slice_set, List, [], ◌∷◌, ◌++◌, Option, Some, None}
+use Rattle.std.specs.Prelude.{◌≡◌, ◌<◌, ℕ, if◌then◌else◌, length, slice_set, List, [], ◌∷◌, ◌++◌, Option, Some, None}
 use Rattle.mdc_types.specs.declared.numbers.Sector.{Sector}
 use Rattle.mdc_types.specs.declared.events.Event.{Event}
 use Rattle.mdc_types.specs.declared.events.Event.TheVariants.{AskWrite, Out, EndWrite, BreakWrite, AskRead, In, Die, Settle}
@@ -8,7 +8,7 @@ use Rattle.mdc_types.specs.declared.outcomes.Outcome.TheVariants.{Write, Read, L
 use Rattle.mdc_types.specs.declared.outcomes.Entry.{Entry}
 use Rattle.plain_history.specs.declared.asked.AskedWrite.{AskedWrite}
 use Rattle.plain_history.specs.declared.asked.AskedRead.{AskedRead}
-use Rattle.plain_history.specs.History.{PlainWrite, live_writes, asked_reads, candidates, values_at, LegalEntry, LegalAfter}
+use Rattle.plain_history.specs.History.{PlainWrite, live_writes, asked_reads, candidates, values_at, LegalEntry}
 use Rattle.plain_history.specs.Asked.{write_in, read_in, new_write, new_read, without_write, without_read, without_writes_of, without_reads_of, start_in}
 
 pub record Tables : Type 0 where
@@ -76,7 +76,7 @@ ask_write t n k s v = record t { writes = without_write n k t.writes ++ new_writ
 abbrev pub start_write : Tables → ℕ → ℕ → Tables
 start_write t n k = record t { writes = start_in n k t.writes; values = start_values (write_in n k t.writes) t.values }
 
--- the first transfer of a write, or a later one, which breaks it
+-- a transfer that breaks its write, and is the start if it is the first
 abbrev pub start_and_break : Tables → ℕ → ℕ → Tables
 start_and_break t n k = record t { writes = without_write n k t.writes; values = start_values (write_in n k t.writes) t.values }
 

@@ -109,23 +109,72 @@ mod tests {
 
         // While the write is open both values may be read, and after its end the new one alone.
         let legal = [
-            ask, read, gives(old), start, read, lost, gives(old), read, gives(new), end, read, gives(new), other,
+            ask,
+            read,
+            gives(old),
+            start,
+            read,
+            lost,
+            gives(old),
+            read,
+            gives(new),
+            end,
+            read,
+            gives(new),
+            other,
         ];
         assert_eq!(rt; answer(&rt, rt.alloc(), &legal)?, Checked::Legal);
         // A broken write and that of a dead node stay open until a settle.
-        let settled = [ask, last_leg, settle(old), ask, start, breaks, ask, start, die, read, gives(new), settle(new)];
+        let settled = [
+            ask,
+            last_leg,
+            settle(old),
+            ask,
+            start,
+            breaks,
+            ask,
+            start,
+            die,
+            read,
+            gives(new),
+            settle(new),
+        ];
         assert_eq!(rt; answer(&rt, rt.alloc(), &settled)?, Checked::Legal);
 
         assert_eq!(rt; answer(&rt, rt.alloc(), &[])?, Checked::Legal);
-        assert_eq!(rt; answer(&rt, rt.alloc(), &[ask, start, end, read, gives(old)])?, Checked::FirstBad(4));
-        assert_eq!(rt; answer(&rt, rt.alloc(), &[ask, start, read, gives(near)])?, Checked::FirstBad(3));
-        assert_eq!(rt; answer(&rt, rt.alloc(), &[ask, read, gives(new)])?, Checked::FirstBad(2));
-        assert_eq!(rt; answer(&rt, rt.alloc(), &[gives(old)])?, Checked::FirstBad(0));
+        assert_eq!(rt;
+            answer(&rt, rt.alloc(), &[ask, start, end, read, gives(old)])?,
+            Checked::FirstBad(4)
+        );
+        assert_eq!(rt;
+            answer(&rt, rt.alloc(), &[ask, start, read, gives(near)])?,
+            Checked::FirstBad(3)
+        );
+        assert_eq!(rt;
+            answer(&rt, rt.alloc(), &[ask, read, gives(new)])?,
+            Checked::FirstBad(2)
+        );
+        assert_eq!(rt;
+            answer(&rt, rt.alloc(), &[gives(old)])?,
+            Checked::FirstBad(0)
+        );
         assert_eq!(rt; answer(&rt, rt.alloc(), &[ask, end])?, Checked::FirstBad(1));
-        assert_eq!(rt; answer(&rt, rt.alloc(), &[ask, start, die, end])?, Checked::FirstBad(3));
-        assert_eq!(rt; answer(&rt, rt.alloc(), &[ask, start, end, end])?, Checked::FirstBad(3));
-        assert_eq!(rt; answer(&rt, rt.alloc(), &[ask, other])?, Checked::FirstBad(1));
-        assert_eq!(rt; answer(&rt, rt.alloc(), &[ask, settle(new)])?, Checked::FirstBad(1));
+        assert_eq!(rt;
+            answer(&rt, rt.alloc(), &[ask, start, die, end])?,
+            Checked::FirstBad(3)
+        );
+        assert_eq!(rt;
+            answer(&rt, rt.alloc(), &[ask, start, end, end])?,
+            Checked::FirstBad(3)
+        );
+        assert_eq!(rt;
+            answer(&rt, rt.alloc(), &[ask, other])?,
+            Checked::FirstBad(1)
+        );
+        assert_eq!(rt;
+            answer(&rt, rt.alloc(), &[ask, settle(new)])?,
+            Checked::FirstBad(1)
+        );
         Ok(())
     }
 }

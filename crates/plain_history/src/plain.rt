@@ -4,7 +4,7 @@ ghost use Rattle.mdc_types.specs.declared.outcomes.Entry.{Entry};
 ghost use Rattle.plain_history.specs.History.{IsFree, HasBegun, IsReadable, IsIn, values_at};
 ghost use Rattle.plain_history.specs.Asked.{write_in};
 ghost use Rattle.plain_history.specs.Runs.{RunEnds};
-ghost use Rattle.plain_history.specs.Tables.{writes_of, reads_of, Follows, IsWithin, LegalIn, start_values, ask_write, start_write, start_and_break, end_write, break_write, ask_read, end_read, die, settle, tables_after};
+ghost use Rattle.plain_history.specs.Tables.{tables_of, writes_of, reads_of, Follows, IsWithin, LegalIn, start_values, ask_write, start_write, start_and_break, end_write, break_write, ask_read, end_read, die, settle, tables_after};
 
 use crate::asked::{
     any_of_sector, drop_read, drop_reads_of, drop_write, drop_writes_of, read_of, start, write_of,
@@ -47,6 +47,7 @@ impl Model for Plain {
 impl Plain {
     /// The history before any entry, with the candidates of each sector. It takes no memory.
     pub fn open(openings: Vec<Vec<Sector>>) -> Plain
+        ensures tables { result ≡ tables_of [] [] (map (λ list. list.items) openings.items) }
         ensures follows { Follows (values_at (map (λ list. list.items) openings.items)) [] result }
         ensures sectors { length result.values ≡ length openings.items }
     {
@@ -63,6 +64,7 @@ impl Plain {
     pub fn run(&mut self, e: &Entry) -> Result<(), PlainEnd>
         requires { IsWithin (length self.old.values) e.now.event }
         ensures run { (base : ℕ → List Sector) (past : List Entry) → Follows base past self.old → RunEnds base past e.now result self.new }
+        ensures tables { OnOk result (self.new ≡ tables_after self.old e.now.event e.now.outcome) }
         ensures sectors { length self.new.values ≡ length self.old.values }
         ensures err { OnErr result (self.new ≡ self.old) }
     {
@@ -129,7 +131,13 @@ impl Plain {
         }
     }
 
-    fn ask_write(&mut self, n: NodeId, k: WriteNo, s: SectorNo, v: &Sector) -> Result<(), AllocError>
+    fn ask_write(
+        &mut self,
+        n: NodeId,
+        k: WriteNo,
+        s: SectorNo,
+        v: &Sector,
+    ) -> Result<(), AllocError>
         requires { s < length self.old.values }
         ensures ok { OnOk result (self.new ≡ ask_write self.old n k s v.now) }
         ensures err { OnErr result (self.new ≡ self.old) }

@@ -1,4 +1,4 @@
-use Rattle.std.proofs.Common.{rules, ◌∙◌, ◌≡◌, ◌==◌, ◌&&◌, not}
+use Rattle.std.proofs.Common.{rules, ◌∙◌, ◌≡◌, ◌==◌, not}
 use Rattle.std.specs.Prelude.{filter}
 use Rattle.std.proofs.lemmas.Fn.{filter_same}
 use Rattle.plain_history.proofs.Recursions.{without_reads_of-is}

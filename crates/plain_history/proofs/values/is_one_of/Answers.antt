@@ -1,4 +1,4 @@
-use Rattle.std.proofs.Common.{◌≡◌, refl, sym, ◌∙◌, true, false}
+use Rattle.std.proofs.Common.{refl, sym, ◌∙◌}
 use Rattle.std.proofs.lemmas.Bool.{false≢true}
 use Rattle.plain_history.proofs.Scans.{same_sector, IsIn-at, IsIn-more, IsIn-end}
 use Rattle.plain_history.proofs.values.is_one_of.Goals as goal

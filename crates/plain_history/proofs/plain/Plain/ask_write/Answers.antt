@@ -1,4 +1,4 @@
-use Rattle.std.proofs.Common.{◌<◌, length, ap, arith}
+use Rattle.std.proofs.Common.{length, ap, arith}
 use Rattle.plain_history.proofs.Following.{tidy-ask_write}
 use Rattle.plain_history.proofs.plain.Plain.ask_write.Goals as goal
 
