@@ -15,14 +15,23 @@ use Rattle.script_text.specs.declared.script.Line.{Line}
 use Rattle.script_text.specs.declared.script.Line.TheVariants.{Event as event_line}
 use Rattle.script_text.specs.Script.{ScriptValue, IsScript, script_of, fault_of}
 use Rattle.script_text.specs.Outside.{with_back, WroteFront}
+use Rattle.cluster_model.specs.Run.{Run}
+use Rattle.mdc_types.specs.Roles.{role_of}
+use Rattle.mdc_types.specs.declared.roles.Role.TheVariants.{Spare}
+use Rattle.laws_history.specs.Laws.{WorkingLegsTell}
+use Rattle.laws_history.proofs.Places.{runs_cut, legs_tell}
+use Rattle.laws_history.proofs.Runs.{runs_legal, runs_fresh}
 use Rattle.cluster_core.specs.World.{trace_limit}
-use Rattle.mdc.specs.Lines.{AllTold, origin_of, Plays, Sofar, CutShort, RanFull}
+use Rattle.mdc.specs.Lines.{AllTold, AtPlace, origin_of, Plays, Sofar, CutShort, RanFull}
 use Rattle.mdc.specs.Answers.{Outside, Reads, Judged, Answers, Ran, PlaysSome, PlaysFull, ReadsScript, ReadsNone, trace_full_line, script_line}
 use Rattle.mdc.specs.Answers.RunText.{some_lines, then_full}
 use Rattle.mdc.specs.Answers.IsText.{no_script, of_run}
 use Rattle.mdc.specs.declared.status.Status.{Status}
 use Rattle.mdc.specs.declared.status.Status.TheVariants as statuses
 use Rattle.mdc.proofs.Played.{run_of, with_back-append}
+
+leg_cases : (l legs : ℕ) → (l < legs) ⊎ (legs ≤ l)
+leg_cases l legs = grind arith
 
 module _ (script : ScriptValue) (header : Start) (lines : List Line) (of_header : header ≡ script.start) (of_lines : lines ≡ script.lines)
     (start end : State) (past : List Entry) (w now : Option (List ℕ)) (opens : Opens (origin_of header) start) (told : AllTold header start) (few : length past ≤ trace_limit) where
@@ -35,6 +44,36 @@ module _ (script : ScriptValue) (header : Start) (lines : List Line) (of_header 
   as_script : (part : List Line → List Line) (text : List ℕ) → Plays start (reverse (part lines)) end past text → Plays start (reverse (part script.lines)) end past text
   as_script part text plays = subst (λ ls. Plays start (reverse (part ls)) end past text) of_lines plays
 
+  working_tell : WorkingLegsTell (origin_of script.start) start.legs
+  working_tell l works = elim (leg_cases l script.start.legs) [
+    | inl lt ↦ all_told l lt
+    | inr le ↦ let spare : role_of (origin_of script.start).roles l ≡ Spare = opened.origin.legs l le in cc
+  ]
+
+  -- up to each place and from there on it is a run, by the laws of all runs
+  place_of : (before later : List Entry) → Run start (later ++ before) end → AtPlace script.start start before later end
+  place_of before later run =
+      let place = runs_cut start before later end run in
+      record {
+        here = place.state;
+        run = place.before;
+        rest = place.after;
+        told = λ l lt. legs_tell start before place.state place.before l ∙ all_told l lt;
+        fresh = runs_fresh (origin_of script.start) start before place.state opened place.before;
+      }
+
+  playing_of : (part : List Line → List Line) (text : List ℕ) → Plays start (reverse (part script.lines)) end past text → Run start past end → Playing script.start (part script.lines) past end text
+  playing_of part text plays run = record {
+    start = start;
+    opens = opened;
+    told = all_told;
+    plays = plays;
+    run = run;
+    few = few;
+    legal = runs_legal (origin_of script.start) start past end opened working_tell run;
+    places = λ before later is. place_of before later (subst (λ p. Run start p end) is run);
+  }
+
   pub ran_all : Sofar start lines end past w now → Ran script w now statuses.Done
   ran_all a = (
     a.text,
@@ -42,7 +81,7 @@ module _ (script : ScriptValue) (header : Start) (lines : List Line) (of_header 
       record {
         past = past;
         end = end;
-        playing = record { start = start; opens = opened; told = all_told; few = few; plays = as_script (λ ls. ls) a.text a.plays; run = run_of start (reverse lines) end past a.text a.plays };
+        playing = playing_of (λ ls. ls) a.text (as_script (λ ls. ls) a.text a.plays) (run_of start (reverse lines) end past a.text a.plays);
       },
       a.wrote,
     ),
@@ -53,7 +92,7 @@ module _ (script : ScriptValue) (header : Start) (lines : List Line) (of_header 
     count = c.count;
     past = past;
     end = end;
-    playing = record { start = start; opens = opened; told = all_told; few = few; plays = as_script (take c.count) c.text c.plays; run = run_of start (reverse (take c.count lines)) end past c.text c.plays };
+    playing = playing_of (take c.count) c.text (as_script (take c.count) c.text c.plays) (run_of start (reverse (take c.count lines)) end past c.text c.plays);
   }
 
   pub ran_cut : CutShort start lines end past w now → Ran script w now statuses.WriteFault
@@ -67,7 +106,7 @@ module _ (script : ScriptValue) (header : Start) (lines : List Line) (of_header 
     count = f.count;
     past = past;
     end = end;
-    playing = record { start = start; opens = opened; told = all_told; few = few; plays = as_script (take f.count) f.text f.plays; run = run_of start (reverse (take f.count lines)) end past f.text f.plays };
+    playing = playing_of (take f.count) f.text (as_script (take f.count) f.text f.plays) (run_of start (reverse (take f.count lines)) end past f.text f.plays);
     event = f.event;
     next = subst (λ ls. slice_get ls f.count ≡ Some (event_line f.event)) of_lines f.next;
     accepted = f.accepted;

@@ -1,14 +1,17 @@
 -- What the lines of a script do, and what is printed for them.
 use Rattle.std.specs.Prelude.{◌≡◌, ◌⊎◌, ◌<◌, ◌≤◌, ℕ, true, false, List, [], ◌∷◌, ◌++◌, reverse, take, length, slice_get, codes, Option, Some, None}
 use Rattle.mdc_types.specs.Geometry.{Sizes}
+use Rattle.mdc_types.specs.declared.numbers.Sector.{Sector}
 use Rattle.mdc_types.specs.declared.events.Event.{Event}
 use Rattle.mdc_types.specs.declared.outcomes.Outcome.{Outcome}
 use Rattle.mdc_types.specs.declared.outcomes.Entry.{Entry}
 use Rattle.mdc_types.specs.declared.refusals.Refusal.{Refusal}
+use Rattle.plain_history.specs.History.{Legal, candidates, values_at}
 use Rattle.cluster_model.specs.State.{State}
 use Rattle.cluster_model.specs.Table.{refusal}
 use Rattle.cluster_model.specs.Run.{Step, Run, entry}
 use Rattle.cluster_model.specs.Opening.{Origin, Opens, header_at}
+use Rattle.laws_history.specs.Laws.{NoServedLegIsStale}
 use Rattle.cluster_core.specs.World.{trace_limit}
 use Rattle.script_text.specs.Outside.{with_back}
 use Rattle.script_text.specs.declared.script.Start.{Start}
@@ -68,7 +71,19 @@ origin_of s = header_at (sizes_of s) s.nodes s.warm s.spares
 abbrev pub AllTold : Start → State → Type 0
 AllTold header start = (l : ℕ) → l < header.legs → start.legs.told l ≡ true
 
--- These lines were played from the header's opening: there is one trace, no longer than it may be, and a run with just its entries to one end.
+-- the values of each sector at the header's opening
+abbrev pub base_of : Start → ℕ → List Sector
+base_of header = values_at (origin_of header).base
+
+-- A place of a run: up to there it is a run, and from there on. Each leg tells its contents there, and no leg that an up node reads from is stale.
+pub record AtPlace (header : Start) (start : State) (before later : List Entry) (end : State) : Type 0 where
+  pub here : State
+  pub run : Run start before here
+  pub rest : Run here later end
+  pub told : AllTold header here
+  pub fresh : NoServedLegIsStale (candidates (base_of header) before) here
+
+-- These lines were played from the header's opening: there is one trace, no longer than it may be, and a run with just its entries to one end. The trace is a legal history, and no served leg is stale at any of its places.
 pub record Playing (header : Start) (lines : List Line) (past : List Entry) (end : State) (text : List ℕ) : Type 0 where
   pub start : State
   pub opens : Opens (origin_of header) start
@@ -76,6 +91,8 @@ pub record Playing (header : Start) (lines : List Line) (past : List Entry) (end
   pub plays : Plays start (reverse lines) end past text
   pub run : Run start past end
   pub few : length past ≤ trace_limit
+  pub legal : Legal (base_of header) past
+  pub places : (before later : List Entry) → past ≡ later ++ before → AtPlace header start before later end
 
 -- An event was not done, or it was, and its line isn't printed.
 abbrev pub HaltsAt : State → List Entry → Line → State → List Entry → Type 0
