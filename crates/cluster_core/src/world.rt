@@ -28,6 +28,7 @@ pub enum StepEnd {
 }
 
 /// Memory is wanting for a world. What it was to be made of comes back.
+#[derive(Drop)]
 pub struct NoWorld<L: LegDev> {
     pub legs: Vec<L>,
     pub opening: Opening,

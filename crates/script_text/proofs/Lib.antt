@@ -1,0 +1,8 @@
+pub mod OutsideLaws
+pub mod LinesLaws
+pub mod NumbersLaws
+pub mod HexLaws
+pub mod ReadingLaws
+pub mod GrammarLaws
+pub mod InputLaws
+pub mod PartLaws

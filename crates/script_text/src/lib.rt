@@ -1,2 +1,40 @@
-//! script_text
+//! Scripts: their grammar and its reader, and the traits through which scripts come and text goes.
+//!
+//! A script is lines of UTF-8, each ended by a line feed, which the last may lack. Words are parted by
+//! one space. An empty line, and one that begins with `#`, are skipped. The first other line is the
+//! header `warm LEGS SECTORS CHUNK NODES`: there is one node today, and `Geometry::new` takes the
+//! sizes. Then come the lines of events, `w N S V`, `out N K L`, `ok N K`, `r N S` and `in N K`. The
+//! line `end` ends the script, and what follows isn't judged. Up to the line feed of that line a
+//! script holds at most 16,777,216 bytes.
+//!
+//! Numbers are decimal, without leading zeros, and have 32 bits; those of nodes and legs have 8. A
+//! value is `-`, which is empty, or 2 to 1,024 lower-case hexadecimal digits, an even number of them.
+//! The rest of the sector is zero.
 #![tactic(auto)]
+
+mod command;
+mod events;
+mod faults;
+mod header;
+mod input;
+mod lines;
+mod memory;
+mod numbers;
+mod reading;
+mod script;
+mod sink;
+mod source;
+mod std_io;
+
+pub use command::{Command, WordsEnd, read_words};
+pub use faults::{FaultKind, ScriptEnd, ScriptFault};
+pub use input::{InputEnd, read_input};
+pub use memory::{MemSink, MemSource};
+pub use reading::{part_is_judged_as_all, read_script};
+pub use script::{Line, Script, Start};
+pub use sink::{Sink, write_all};
+pub use source::Source;
+pub use std_io::{StdSink, StdSource};
+
+#[cfg(test)]
+mod tests;

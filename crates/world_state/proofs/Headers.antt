@@ -1,15 +1,14 @@
 -- The opening of a header is in range.
-use Rattle.std.proofs.Common.{◌≡◌, ℕ, zero, suc, ◌+◌, ◌-◌, ◌^◌, ◌<◌, ◌≤◌, Bool, true, false, refl, arith}
+use Rattle.std.proofs.Common.{◌≡◌, ℕ, zero, suc, ◌≤◌, Bool, true, false, refl, arith}
 use Rattle.std.specs.Prelude.{is_some}
-use Rattle.std.proofs.Math.Nat.{pow-le-pow_right, one-le-pow, div-eq_of_lt}
+use Rattle.std.proofs.Math.Nat.{pow-le-pow_right, one-le-pow}
 use Rattle.std.proofs.lemmas.Bool.Decides.{nat_tests}
 use Rattle.mdc_types.specs.Bits.{has_bit}
 use Rattle.mdc_types.specs.Geometry.{Sizes, IsGeometry, nodes_of}
 use Rattle.mdc_types.specs.Roles.{role_of, is_working}
 use Rattle.mdc_types.specs.declared.roles.Role.TheVariants.{Spare}
 use Rattle.dlm_modes.specs.First.{first_such}
-use Rattle.dlm_modes.proofs.FirstLaws.{first_such_found}
-use Rattle.cluster_model.specs.Opening.{IsOrigin, header_at, header_role, header_roles}
+use Rattle.cluster_model.specs.Opening.{IsOrigin, header_at, header_roles}
 use Rattle.laws_sound.proofs.Legs.{found}
 
 -- the role past the eight is a spare's, and below them that of the header

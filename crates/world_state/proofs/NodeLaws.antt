@@ -1,5 +1,5 @@
 -- The legs of a node.
-use Rattle.std.proofs.Common.{◌≡◌, ◌≢◌, ◌⊎◌, inl, inr, ℕ, zero, suc, ◌+◌, ◌<◌, ◌≤◌, ◌^◌, ◌/◌, ◌%◌, ◌==◌, Bool, true, false, not, ◌&&◌, ◌||◌, List, [], ◌∷◌, length, refl, ap, arith}
+use Rattle.std.proofs.Common.{◌≡◌, ◌≢◌, ◌⊎◌, inl, inr, ℕ, zero, suc, ◌+◌, ◌<◌, ◌≤◌, ◌^◌, ◌/◌, Bool, true, false, not, ◌&&◌, ◌||◌, List, [], ◌∷◌, refl, ap, arith}
 use Rattle.std.specs.Prelude.{is_some, is_none, IsSome, nat_lt, nat_le}
 use Rattle.dlm_modes.specs.First.{first_such, each_such}
 use Rattle.read_balance.specs.Choice.{distance, is_nearest, nearest_leg}

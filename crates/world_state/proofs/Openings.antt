@@ -1,5 +1,5 @@
 -- The state in memory at the opening is the machine's.
-use Rattle.std.proofs.Common.{◌≡◌, ◌⊎◌, inl, inr, ℕ, zero, suc, ◌<◌, ◌≤◌, ◌^◌, Bool, true, false, List, length, refl, ap, sym, ◌∙◌, arith}
+use Rattle.std.proofs.Common.{◌≡◌, ◌⊎◌, inl, inr, ℕ, zero, suc, ◌<◌, ◌≤◌, Bool, true, false, List, refl, ap, sym, ◌∙◌, arith}
 use Rattle.std.specs.Prelude.{get_or, replicate}
 use Rattle.std.proofs.lemmas.Bool.Decides.{nat_tests}
 use Rattle.std.proofs.lemmas.List.{get_or_past}
@@ -7,7 +7,6 @@ use Rattle.std.proofs.lemmas.Nat.Bits.{bit_at-zero}
 use Rattle.mdc_types.specs.Bits.{has_bit}
 use Rattle.mdc_types.specs.Geometry.{nodes_of}
 use Rattle.mdc_types.specs.Roles.{role_of}
-use Rattle.mdc_types.specs.declared.roles.Role.{Role}
 use Rattle.mdc_types.specs.declared.roles.Role.TheVariants.{Spare}
 use Rattle.mdc_types.specs.declared.roles.NodeState.TheVariants.{Up}
 use Rattle.cluster_model.specs.Opening.{Origin, IsOrigin, core_at, of_member}

@@ -1,5 +1,5 @@
 -- What the machine sees of its state in memory.
-use Rattle.std.specs.Prelude.{◌≡◌, ◌<◌, ℕ, Bool, not, ◌&&◌, List, [], length, get_or, replicate, Option, Some, None, Result, Ok, Err}
+use Rattle.std.specs.Prelude.{◌≡◌, ◌<◌, ℕ, Bool, not, ◌&&◌, List, length, get_or, replicate, Option, Some, None, Result, Ok, Err}
 use Rattle.mdc_types.specs.Bits.{has_bit}
 use Rattle.mdc_types.specs.Geometry.{Sizes}
 use Rattle.mdc_types.specs.Roles.{role_of, is_working, is_written}

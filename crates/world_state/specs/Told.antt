@@ -1,5 +1,5 @@
 -- What the machine sees of the legs, and the causes of failures.
-use Rattle.std.specs.Prelude.{◌⊎◌, ◌≡◌, ◌<◌, ℕ, Bool, true, false, not, List, [], replicate, length, get_or, is_some, Option, Some, None}
+use Rattle.std.specs.Prelude.{◌≡◌, ◌<◌, ℕ, Bool, true, false, List, [], length, get_or, is_some, Option, Some, None}
 use Rattle.mdc_types.specs.Faults.{Rose}
 use Rattle.mdc_types.specs.Geometry.{Sizes, length_of}
 use Rattle.mdc_types.specs.declared.numbers.Sector.{Sector}

@@ -1,4 +1,4 @@
-use Rattle.std.proofs.Common.{◌≡◌, sym, ◌∙◌, ap, arith, true, false, not, ◌&&◌, ◌==◌}
+use Rattle.std.proofs.Common.{◌≡◌, sym, ◌∙◌, arith, true, false, not, ◌&&◌, ◌==◌}
 use Rattle.std.proofs.lemmas.Bool.Decides.{nat_tests}
 use Rattle.dlm_modes.proofs.FirstLaws.{first_such_more, first_such_found, first_such_end}
 use Rattle.world_state.specs.Seen.{node_reads}

@@ -1,0 +1,9 @@
+pub mod QueueLaws
+pub mod GuardLaws
+pub mod PartLaws
+pub mod Kept
+pub mod Runs
+mod Changes
+pub mod Told
+pub mod Steps
+mod Examples

@@ -1,0 +1,8 @@
+use Rattle.std.proofs.Common.{arith}
+use Rattle.dlm_space.specs.Locks.{converted}
+use Rattle.dlm_space.proofs.PartLaws.{locks_of-call}
+use Rattle.dlm_space.proofs.space.Space.convert.Goals as goal
+
+pub returns-clause-ok : goal.returns-clause-ok
+returns-clause-ok c =
+    rw (← c.self.view_is) (locks_of-call _ c.self.inside.resources c.args.res c.index-self-res.result c.convert.new.self (λ lock. converted lock c.args.node c.args.mode c.args.value) (omega arith) c.convert.ensures.ok)

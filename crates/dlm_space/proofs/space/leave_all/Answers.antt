@@ -1,0 +1,9 @@
+use Rattle.std.proofs.Common.{◌<◌, length, arith}
+use Rattle.dlm_space.proofs.PartLaws.{locks_of-one_more}
+use Rattle.dlm_space.proofs.space.leave_all.Goals as goal
+
+pub loop-resource-preserved : goal.loop-resource-preserved
+loop-resource-preserved c =
+    let now = c.loop-resource.resource-items in
+    let lt : c.loop-resource.resource-index < length now = omega arith in
+    locks_of-one_more c.args.resources.now now c.args.node c.loop-resource.resource-index _ c.die.new.self lt c.loop-resource.invariant c.die.ensures

@@ -1,0 +1,4 @@
+pub mod Answers
+pub mod Blank
+pub mod Codes
+pub mod Lines

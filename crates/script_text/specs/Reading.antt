@@ -1,0 +1,39 @@
+-- What the parts of the reader find.
+use Rattle.std.specs.Prelude.{◌≡◌, ℕ, ◌+◌, ◌-◌, ◌<◌, List, [], ◌∷◌, length, Option, Some, None, Result, Ok, Err}
+use Rattle.std.specs.Borrow.{Bor}
+use Rattle.std.specs.Option.{option_copied}
+use Rattle.script_text.specs.declared.script.Start.{Start}
+use Rattle.script_text.specs.declared.faults.ScriptEnd.{ScriptEnd}
+use Rattle.script_text.specs.declared.faults.ScriptEnd.TheVariants.{Fault, Memory}
+use Rattle.script_text.specs.Lines.{lines_of, text_of, words_after}
+use Rattle.script_text.specs.Script.{said_by, with_lines, body_of, script_of, outside}
+
+-- the bytes are a line of this text, and then the rest
+pub record BeginsWithLine (bytes text rest : List ℕ) : Type 0 where
+  pub line : List ℕ
+  pub lines : lines_of bytes ≡ line ∷ lines_of rest
+  pub text_is : text_of line ≡ text
+  pub size : length line + length rest ≡ length bytes
+  pub some : 0 < length line
+
+-- the words of a line that isn't skipped, as its first and what follows, and those of a skipped one
+abbrev pub words_read : Option (Bor (List ℕ) × Option (Bor (List ℕ))) → List (List ℕ)
+words_read None = []
+words_read (Some said) = said.0.now ∷ words_after (option_copied said.1)
+
+-- What a reader found of the first line of the bytes: what it says, and what is left after it.
+abbrev pub ReadsLine : List ℕ → ℕ → Option (Option (Bor (List ℕ) × Option (Bor (List ℕ))) × Bor (List ℕ) × ℕ) → Type 0
+ReadsLine bytes room None = (line rest : List ℕ) × (lines_of bytes ≡ line ∷ lines_of rest) × (said_by room line ≡ None)
+ReadsLine bytes room (Some x) = (line : List ℕ) × (lines_of bytes ≡ line ∷ lines_of x.1.now) × (said_by room line ≡ Some (words_read x.0))
+    × (x.2 ≡ room - length line) × (length x.1.now < length bytes)
+
+-- What a reader found of the header: the array, and what is left after its line.
+abbrev pub ReadsStart : List ℕ → Option (Start × Bor (List ℕ) × ℕ) → Type 0
+ReadsStart bytes None = script_of bytes ≡ None
+ReadsStart bytes (Some x) = script_of bytes ≡ with_lines (Some x.0) (body_of x.2 (lines_of x.1.now))
+
+-- A reader answers what is there, seen by view, and else the fault, but for want of memory.
+abbrev pub Gives : {X Y : Type 0} → (X → Y) → Result X ScriptEnd → Option Y → Type 0
+Gives view (Ok x) there = there ≡ Some (view x)
+Gives view (Err (Fault fault)) there = (there ≡ None) × (fault ≡ outside)
+Gives view (Err Memory) there = Unit {0}

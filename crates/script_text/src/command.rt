@@ -1,0 +1,27 @@
+ghost use Rattle.std.specs.Prelude.{◌≡◌, map};
+ghost use Rattle.std.specs.String.{string_bytes};
+ghost use Rattle.script_text.specs.Words.{command_of};
+
+/// What the program is to do.
+#[derive(Clone, Copy, PartialEq, Eq, Debug)]
+pub enum Command {
+    /// `play`: it plays the script of its input.
+    Play,
+}
+
+/// Why words are no command.
+#[derive(Clone, Copy, PartialEq, Eq, Debug)]
+pub enum WordsEnd {
+    Usage,
+    Memory,
+}
+
+/// The command of the program's words.
+pub fn read_words(words: &[String]) -> Result<Command, WordsEnd>
+    ensures { result ≡ command_of (map string_bytes words.now) }
+{
+    match words {
+        [word] if word.as_str() == "play" => Ok(Command::Play),
+        _ => Err(WordsEnd::Usage),
+    }
+}
