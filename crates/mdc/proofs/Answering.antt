@@ -1,5 +1,5 @@
 -- From the lines that were played to what the program answers.
-use Rattle.std.proofs.Common.{◌≡◌, inl, inr, ℕ, ◌+◌, ◌≤◌, Option, Some, None, Result, Ok, List, ◌++◌, length, take, refl, sym, ◌∙◌, ap, subst}
+use Rattle.std.proofs.Common.{◌≡◌, inl, inr, ℕ, ◌+◌, ◌<◌, ◌≤◌, Option, Some, None, Result, Ok, List, ◌++◌, length, take, refl, sym, ◌∙◌, ap, subst}
 use Rattle.std.specs.Prelude.{reverse, slice_get}
 use Rattle.std.proofs.Math.Seq.{take-append-add}
 use Rattle.mdc_types.specs.Faults.{Rose}
@@ -22,7 +22,7 @@ use Rattle.laws_history.specs.Laws.{WorkingLegsTell}
 use Rattle.laws_history.proofs.Places.{runs_cut, legs_tell}
 use Rattle.laws_history.proofs.Runs.{runs_legal, runs_fresh}
 use Rattle.cluster_core.specs.World.{trace_limit}
-use Rattle.mdc.specs.Lines.{AllTold, AtPlace, origin_of, Plays, Sofar, CutShort, RanFull}
+use Rattle.mdc.specs.Lines.{AllTold, AtPlace, Playing, origin_of, Plays, Sofar, CutShort, RanFull}
 use Rattle.mdc.specs.Answers.{Outside, Reads, Judged, Answers, Ran, PlaysSome, PlaysFull, ReadsScript, ReadsNone, trace_full_line, script_line}
 use Rattle.mdc.specs.Answers.RunText.{some_lines, then_full}
 use Rattle.mdc.specs.Answers.IsText.{no_script, of_run}
