@@ -1,5 +1,5 @@
 -- What each script in the grammar has.
-use Rattle.std.proofs.Common.{◌≡◌, ℕ, ◌-◌, ◌==◌, Bool, true, false, ◌&&◌, cond, List, [], ◌∷◌, length, Option, Some, None, refl, subst, arith}
+use Rattle.std.proofs.Common.{◌≡◌, ℕ, ◌-◌, ◌≤◌, nat_le, Bool, true, false, ◌&&◌, cond, List, [], ◌∷◌, length, Option, Some, None, refl, subst, arith}
 use Rattle.std.proofs.lemmas.Bool.{false≢true}
 use Rattle.std.proofs.lemmas.Bool.Decides.{nat_tests}
 use Rattle.std.specs.Prelude.{is_ok, codes}
@@ -149,7 +149,7 @@ script_in_is room (line ∷ lines) s is =
     header_then_is (said_by room line) (script_in (room - length line) lines) (body_of (room - length line) lines) s
     (script_in_is (room - length line) lines) (body_are (room - length line) lines) is
 
--- each script is an array of one node, and lines of its events
+-- each script is an array, and lines of its events
 pub script_is : (bytes : List ℕ) (s : ScriptValue) → IsScript bytes s → IsWhole s
 script_is bytes s is = script_in_is script_limit (lines_of bytes) s is
 
@@ -157,8 +157,14 @@ both : (a b : Bool) → (a && b) ≡ true → (a ≡ true) × (b ≡ true)
 both true b is = (refl, is)
 both false b is = absurd (false≢true is)
 
-pub start_array : (s : Start) → is_start s ≡ true → is_ok (geometry_of s.legs s.sectors s.sectors s.chunk false) ≡ true
-start_array s is = (both (s.nodes == 1) _ is).1
+some_nodes : (s : Start) → is_start s ≡ true → (nat_le 1 s.nodes ≡ true) × (nat_le s.nodes 8 ≡ true)
+some_nodes s is = both (nat_le 1 s.nodes) (nat_le s.nodes 8) (both (nat_le 1 s.nodes && nat_le s.nodes 8) _ is).0
 
-pub start_nodes : (s : Start) → is_start s ≡ true → s.nodes ≡ 1
-start_nodes s is = let t : s.nodes == 1 ≡ true = (both (s.nodes == 1) _ is).0 in grind (arith, nat_tests)
+pub start_array : (s : Start) → is_start s ≡ true → is_ok (geometry_of s.legs s.sectors s.sectors s.chunk false) ≡ true
+start_array s is = (both (nat_le 1 s.nodes && nat_le s.nodes 8) _ is).1
+
+pub start_some_node : (s : Start) → is_start s ≡ true → 1 ≤ s.nodes
+start_some_node s is = grind (arith, nat_tests, (some_nodes s is).0)
+
+pub start_nodes : (s : Start) → is_start s ≡ true → s.nodes ≤ 8
+start_nodes s is = grind (arith, nat_tests, (some_nodes s is).1)

@@ -91,9 +91,9 @@ is_event_line (line_kinds.Event event) = is_line_event event
 
 -- The header.
 
--- there is one node, and such an array
+-- there are 1 to 8 nodes, and such an array
 abbrev pub is_start : Start → Bool
-is_start s = (s.nodes == 1) && is_ok (geometry_of s.legs s.sectors s.sectors s.chunk false)
+is_start s = nat_le 1 s.nodes && nat_le s.nodes 8 && is_ok (geometry_of s.legs s.sectors s.sectors s.chunk false)
 
 abbrev pub warm_with : ℕ → ℕ → ℕ → ℕ → Start
 warm_with legs sectors chunk nodes = record { legs = legs; sectors = sectors; chunk = chunk; nodes = nodes; warm = true; spares = 0 }

@@ -8,10 +8,14 @@ use crate::lines::four;
 use crate::numbers::number;
 use mdc_types::Geometry;
 
+// Of an array.
+const MAX_NODES: u8 = 8;
+
 fn is_start(start: &Start) -> bool
     ensures { result ≡ is_start start.now }
 {
-    start.nodes == 1 && Geometry::new(start.legs, start.sectors, start.chunk).is_ok()
+    (1..=MAX_NODES).contains(&start.nodes)
+        && Geometry::new(start.legs, start.sectors, start.chunk).is_ok()
 }
 
 fn warm_start(args: Option<&str>) -> Option<Start>

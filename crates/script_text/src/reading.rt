@@ -1,4 +1,4 @@
-ghost use Rattle.std.specs.Prelude.{◌≡◌, ℕ, ◌<◌, List, true, false, is_ok, length, IfOk};
+ghost use Rattle.std.specs.Prelude.{◌≡◌, ℕ, ◌<◌, ◌≤◌, List, true, false, is_ok, length, IfOk};
 ghost use Rattle.std.specs.List.{AllByRecursion};
 ghost use Rattle.std.specs.Option.{option_copied};
 ghost use Rattle.mdc_types.specs.Geometry.{geometry_of};
@@ -96,9 +96,10 @@ pub fn read_script(alloc: Global, bytes: &[u8]) -> Result<Script, ScriptEnd>
     // It is this script, or the bytes have this fault, or memory is wanting.
     ensures reads { Reads result bytes.now }
 
-    // What is read is an array of one node without spares, and lines of events that scripts have.
+    // What is read is an array of 1 to 8 nodes without spares, and lines of events that scripts have.
     ensures array { IfOk result (λ s. is_ok (geometry_of s.start.legs s.start.sectors s.start.sectors s.start.chunk false) ≡ true) }
-    ensures nodes { IfOk result (λ s. s.start.nodes ≡ 1) }
+    ensures some_node { IfOk result (λ s. 1 ≤ s.start.nodes) }
+    ensures nodes { IfOk result (λ s. s.start.nodes ≤ 8) }
     ensures spares { IfOk result (λ s. s.start.spares ≡ 0) }
     ensures events { IfOk result (λ s. AllByRecursion (λ line. is_event_line line ≡ true) s.lines) }
 {

@@ -12,7 +12,7 @@ pub struct Start {
     pub sectors: u32,
     /// The number of sectors of a chunk, a power of two up to 1,024.
     pub chunk: u32,
-    /// The number of nodes, which are all members.
+    /// The number of nodes, 1 to 8, which are all members.
     pub nodes: u8,
     /// Whether the array opens with every bit of its members' write-intent bitmaps set, as after an
     /// unclean stop.

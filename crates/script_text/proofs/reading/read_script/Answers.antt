@@ -5,7 +5,7 @@ use Rattle.script_text.specs.declared.script.Line.{Line}
 use Rattle.script_text.specs.Lines.{lines_of}
 use Rattle.script_text.specs.Script.{body_of, with_lines}
 use Rattle.script_text.specs.Reading.{ReadsStart}
-use Rattle.script_text.proofs.GrammarLaws.{IsWhole, script_is, start_array, start_nodes}
+use Rattle.script_text.proofs.GrammarLaws.{IsWhole, script_is, start_array, start_some_node, start_nodes}
 use Rattle.script_text.proofs.reading.read_script.Goals as goal
 
 read_whole : (bytes : List ℕ) (found : Option (Start × Bor (List ℕ) × ℕ)) (start : Start) (rest : Bor (List ℕ)) (room : ℕ) (lines : List Line)
@@ -16,6 +16,10 @@ read_whole bytes found start rest room lines r is body =
 pub returns-clause-array : goal.returns-clause-array
 returns-clause-array c =
     start_array c.in_ok-start.start (read_whole c.args.bytes.now _ _ _ _ _ c.read_start.ensures c.in_ok-start.ensures.ok_part c.in_ok-lines.ensures).start.start
+
+pub returns-clause-some_node : goal.returns-clause-some_node
+returns-clause-some_node c =
+    start_some_node c.in_ok-start.start (read_whole c.args.bytes.now _ _ _ _ _ c.read_start.ensures c.in_ok-start.ensures.ok_part c.in_ok-lines.ensures).start.start
 
 pub returns-clause-nodes : goal.returns-clause-nodes
 returns-clause-nodes c =
