@@ -77,6 +77,53 @@ fn refusals(rt: HostRuntime) -> Result<(), AllocError> {
     Ok(())
 }
 
+// Node 1 reads from the leg that the write of node 0 hasn't reached, and node 0 from the one that it has.
+#[test]
+fn two_nodes(rt: HostRuntime) -> Result<(), AllocError> {
+    let script =
+        b"warm 2 16 4 2\nw 0 14 6869\nout 0 0 0\nw 1 15 aa\nout 1 0 1\nr 1 14\nin 1 0\nr 0 14\nin 0 0\nend\n";
+    let played = play_words(rt.alloc(), &["play"], script)?;
+    assert_eq!(rt; played.status, Status::Done);
+    assert_eq!(rt;
+        played.sink.bytes(),
+        b"write 0\ndone\nwrite 0\ndone\nread 0\nvalue 1 -\nread 0\nvalue 0 6869\n".as_slice()
+    );
+    Ok(())
+}
+
+#[test]
+fn one_write_of_a_sector(rt: HostRuntime) -> Result<(), AllocError> {
+    let script = b"warm 2 16 4 2\nw 0 5 01\nw 1 5 02\nw 2 5 01\nw 8 5 01\nout 0 0 2\nend\n";
+    let played = play_words(rt.alloc(), &["play"], script)?;
+    assert_eq!(rt; played.status, Status::Done);
+    assert_eq!(rt;
+        played.sink.bytes(),
+        b"write 0\nrefused in-flight 0\nrefused not-up 2\nrefused no-node 8\nrefused no-leg 2\n".as_slice()
+    );
+    Ok(())
+}
+
+// Sixteen writes of a node are in flight at most, and the last sector of an array is written as the first.
+#[test]
+fn sixteen_writes(rt: HostRuntime) -> Result<(), AllocError> {
+    let mut script = Vec::from_slice(
+        rt.alloc(),
+        b"warm 2 131072 8 1\nw 0 131071 01\nw 0 131072 01\n",
+    )?;
+    for s in 1..17_u32 {
+        script.extend_from_slice(b"w 0 ")?;
+        script.extend_from_slice(s.to_string(rt.alloc())?.as_bytes())?;
+        script.extend_from_slice(b" 01\n")?;
+    }
+    script.extend_from_slice(b"end\n")?;
+    let played = play_words(rt.alloc(), &["play"], script.as_slice())?;
+    assert_eq!(rt; played.status, Status::Done);
+    let text = played.sink.bytes();
+    assert!(rt; text.starts_with(b"write 0\nrefused no-sector 131072\nwrite 1\n"));
+    assert!(rt; text.ends_with(b"write 15\nrefused full 0\n"));
+    Ok(())
+}
+
 #[test]
 fn what_stands_after_end_is_not_judged(rt: HostRuntime) -> Result<(), AllocError> {
     let played = play_words(rt.alloc(), &["play"], b"warm 2 16 4 1\nend\nfrob\n")?;
@@ -107,7 +154,7 @@ fn no_command(rt: HostRuntime) -> Result<(), AllocError> {
 fn no_script(rt: HostRuntime) -> Result<(), AllocError> {
     for script in [
         b"".as_slice(),
-        b"warm 2 16 4 2\nend\n",
+        b"warm 2 16 4 9\nend\n",
         b"warm 2 16 4 1\nfrob\nend\n",
         b"warm 2 16 4 1\n",
         b"warm 1 16 4 1\nend\n",
