@@ -1,4 +1,4 @@
-ghost use Rattle.std.specs.Prelude.{◌≡◌, ◌<◌, ◌≤◌, ◌-◌, ◌^◌, ◌↔◌, [], ◌∷◌, ℕ, true, None, Some, Ok, Err, min, map, length, IfOk, IfErr, IsErr, IsOk, OnOk, OnErr, IsErrOf};
+ghost use Rattle.std.specs.Prelude.{◌≡◌, ◌<◌, ◌≤◌, ◌-◌, ◌^◌, ◌↔◌, [], ◌∷◌, ℕ, true, None, Some, Ok, Err, min, map, reverse, length, IfOk, IfErr, IsErr, IsOk, OnOk, OnErr, IsErrOf};
 ghost use Rattle.mdc_types.specs.declared.refusals.Refusal.{Refusal};
 ghost use Rattle.cluster_model.specs.Opening.{IsOrigin, core_at};
 ghost use Rattle.cluster_model.specs.Table.{refusal, is_built};
@@ -84,6 +84,13 @@ impl<L: LegDev> World<L> {
         ensures { result.now ≡ self.now.origin }
     {
         &self.opening
+    }
+
+    /// The entries, the oldest first.
+    pub fn trace(&self) -> &[Entry]
+        ensures { self.now.past ≡ reverse result.now }
+    {
+        self.body.trace.as_slice()
     }
 
     /// A run from a state that belongs to the opening led to where the world is.

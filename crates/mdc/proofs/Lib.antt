@@ -1,3 +1,4 @@
 mod Answering
 mod Blanks
 mod Played
+mod Traced

@@ -1,4 +1,5 @@
 pub mod Answers
 pub mod Blank
+pub mod Checks
 pub mod Codes
 pub mod Lines

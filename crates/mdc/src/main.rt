@@ -2,6 +2,7 @@
 #![tactic(auto)]
 
 mod array;
+mod checking;
 mod lines;
 mod play;
 mod status;

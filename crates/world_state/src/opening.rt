@@ -126,6 +126,13 @@ impl Opening {
         })
     }
 
+    /// For each data sector, the values that the working legs may have there.
+    pub fn base(&self) -> &[Vec<Sector>]
+        ensures { map (λ values. values.items) result.now ≡ self.now.base }
+    {
+        self.base.as_slice()
+    }
+
     /// The sizes of the array.
     pub fn geometry(&self) -> Geometry
         ensures { result ≡ self.now.sizes }
