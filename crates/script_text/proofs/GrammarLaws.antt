@@ -12,7 +12,7 @@ use Rattle.script_text.specs.declared.script.Line.{Line}
 use Rattle.script_text.specs.Lines.{lines_of, script_limit, two, three, four}
 use Rattle.script_text.specs.Steps.{◌>>=◌, guarded}
 use Rattle.script_text.specs.Numbers.{number_of, byte_of, value_of}
-use Rattle.script_text.specs.Script.{ScriptValue, is_start, warm_with, warm_start, start_of, is_line_event, is_event_line, ask_write, out_write, end_write, ask_read, in_read, event_of, line_of, said_by, is_end, with_lines, line_then, body_of, header_then, script_in, IsScript}
+use Rattle.script_text.specs.Script.{ScriptValue, is_start, warm_with, warm_start, start_of, is_line_event, is_event_line, ask_write, out_write, end_write, ask_read, in_read, event_of, is_check, line_of, said_by, is_end, with_lines, line_then, body_of, header_then, script_in, IsScript}
 
 bind_some : {A B : Type 0} (o : Option A) (f : A → Option B) (y : B) → (o >>= f) ≡ Some y → (x : A) × (o ≡ Some x) × (f x ≡ Some y)
 bind_some None f y is = cc
@@ -102,8 +102,11 @@ event_is word args e is =
 
 line_is : (word : List ℕ) (args : List (List ℕ)) (line : Line) → line_of word args ≡ Some line → is_event_line line ≡ true
 line_is word args line is =
+    chosen (is_check word args) _ _ (Some line) _ is
+    (λ is. subst (λ x. is_event_line x ≡ true) (some_same is) refl)
+    (λ is.
     let event = bind_some (event_of word args) _ line is in
-    subst (λ x. is_event_line x ≡ true) (some_same event.2) (event_is word args event.0 event.1)
+    subst (λ x. is_event_line x ≡ true) (some_same event.2) (event_is word args event.0 event.1))
 
 abbrev AreEvents : List Line → Type 0
 AreEvents lines = AllByRecursion (λ line. is_event_line line ≡ true) lines

@@ -11,7 +11,7 @@ use Rattle.std.proofs.lemmas.List.{append_assoc}
 use Rattle.script_text.specs.Steps.{guarded}
 use Rattle.script_text.specs.Lines.{lines_of, words_after}
 use Rattle.script_text.specs.Reading.{BeginsWithLine, ReadsLine}
-use Rattle.script_text.specs.Script.{said_by, words_said, is_end, line_of, line_then, onto_lines, body_of}
+use Rattle.script_text.specs.Script.{said_by, words_said, is_end, is_check, line_of, line_then, onto_lines, body_of}
 use Rattle.script_text.proofs.LinesLaws.{words_some}
 use Rattle.script_text.specs.declared.script.Line.{Line}
 
@@ -51,6 +51,13 @@ end_is word None true is none = sym is
 end_is word None false is none = cc
 end_is word (Some more) true is none = cc
 end_is word (Some more) false is none = let w = words_some more.now in rw w.2 refl
+
+-- as `check`
+pub check_is : (word : List ℕ) (args : Option (Bor (List ℕ))) (alone : Bool) → bytes_eq word (codes "check") ≡ true → is_some args ≡ not alone → alone ≡ is_check word (words_after (option_copied args))
+check_is word None true is none = sym is
+check_is word None false is none = cc
+check_is word (Some more) true is none = cc
+check_is word (Some more) false is none = let w = words_some more.now in rw w.2 refl
 
 -- one line more
 pub after_lines-onto_lines : (front : List Line) (first : Line) (later : Option (List Line)) → after_lines front (onto_lines (Some first) later) ≡ after_lines (front ++ first ∷ []) later

@@ -72,10 +72,18 @@ event_of word args =
     else if bytes_eq word (codes "in") then in_read args
     else None
 
-abbrev pub line_of : List ℕ → List (List ℕ) → Option Line
-line_of word args = do
+abbrev pub event_line : List ℕ → List (List ℕ) → Option Line
+event_line word args = do
   event ← event_of word args
   Some (line_kinds.Event event)
+
+-- the query, which is one word
+abbrev pub is_check : List ℕ → List (List ℕ) → Bool
+is_check word [] = bytes_eq word (codes "check")
+is_check word (arg ∷ args) = false
+
+abbrev pub line_of : List ℕ → List (List ℕ) → Option Line
+line_of word args = if is_check word args then Some line_kinds.Check else event_line word args
 
 -- whether a line's event is one of those above
 abbrev pub is_line_event : Event → Bool
@@ -88,6 +96,7 @@ is_line_event e = false
 
 abbrev pub is_event_line : Line → Bool
 is_event_line (line_kinds.Event event) = is_line_event event
+is_event_line line_kinds.Check = true
 
 -- The header.
 

@@ -1,7 +1,7 @@
 ghost use Rattle.std.specs.Prelude.{◌≡◌};
 ghost use Rattle.std.specs.Option.{option_copied};
 ghost use Rattle.script_text.specs.Lines.{words_after};
-ghost use Rattle.script_text.specs.Script.{event_of, line_of, ask_write, out_write, end_write, ask_read, in_read};
+ghost use Rattle.script_text.specs.Script.{event_of, is_check, line_of, ask_write, out_write, end_write, ask_read, in_read};
 
 use crate::Line;
 use crate::lines::{three, two};
@@ -56,9 +56,18 @@ fn event(word: &str, args: Option<&str>) -> Option<Event>
     }
 }
 
+fn is_check(word: &str, args: Option<&str>) -> bool
+    ensures { result ≡ is_check word.now (words_after (option_copied args.entry)) }
+{
+    word == "check" && args.is_none()
+}
+
 /// The line of this first word and the words after it.
 pub(crate) fn line(word: &str, args: Option<&str>) -> Option<Line>
     ensures { result ≡ line_of word.now (words_after (option_copied args.entry)) }
 {
+    if is_check(word, args) {
+        return Some(Line::Check);
+    }
     Some(Line::Event(event(word, args)?))
 }

@@ -25,6 +25,8 @@ pub struct Start {
 #[derive(Clone, Copy)]
 pub enum Line {
     Event(Event),
+    /// The query `check`.
+    Check,
 }
 
 /// A script that is in the grammar.
