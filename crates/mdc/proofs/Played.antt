@@ -7,7 +7,8 @@ use Rattle.std.proofs.lemmas.Option.{slice_get-get_or}
 use Rattle.std.proofs.Math.Seq.{take-append-add, take-length}
 use Rattle.mdc_types.specs.declared.outcomes.Entry.{Entry}
 use Rattle.cluster_model.specs.State.{State}
-use Rattle.cluster_model.specs.Run.{Run}
+use Rattle.cluster_model.specs.Run.{Run, entry}
+use Rattle.laws_history.proofs.Places.{legs_tell}
 use Rattle.script_text.specs.declared.script.Line.{Line}
 use Rattle.script_text.specs.declared.script.Line.TheVariants as line_kinds
 use Rattle.script_text.specs.Outside.{with_back}
@@ -82,6 +83,16 @@ run_of start ((line_kinds.Event e) ∷ lines) end past text played =
       | inl r ↦ rw (r.entries, r.same) before
       | inr a ↦ rw a.entries (played.0, before, a.step)
     ]
+run_of start (line_kinds.Check ∷ lines) end past text played =
+    let rest = played.1.1.1.1 in
+    let before = run_of start lines played.0 played.1.0 played.1.1.0 rest.0 in
+    rw (rest.1.entries, rest.1.same) before
+
+-- no line changes whether a leg tells its contents
+pub takes_told : (old : State) (past : List Entry) (line : Line) (new : State) (later : List Entry) (text : List ℕ) → Takes old past line new later text → (l : ℕ) → new.legs.told l ≡ old.legs.told l
+takes_told old past (line_kinds.Event e) new later text (inl r) l = ap (λ s. s.legs.told l) r.same
+takes_told old past (line_kinds.Event e) new later text (inr a) l = legs_tell old (entry e a.outcome ∷ []) new (old, refl, a.step) l
+takes_told old past line_kinds.Check new later text t l = ap (λ s. s.legs.told l) t.same
 
 -- what holds of each line
 pub all_at : (P : Line → Type 0) (lines : List Line) → AllByRecursion P lines → (i : ℕ) (line : Line) → i < length lines → line ≡ get_or lines i line → P line

@@ -1,5 +1,5 @@
 -- The trace of a run is what the plain history's check takes, and is legal.
-use Rattle.std.proofs.Common.{◌≡◌, ℕ, ◌≤◌, List, [], ◌∷◌, length, refl, sym, ◌∙◌, subst, ap, arith}
+use Rattle.std.proofs.Common.{ℕ, ◌≤◌, List, [], ◌∷◌, sym, ◌∙◌, subst, ap, arith}
 use Rattle.std.specs.Prelude.{reverse}
 use Rattle.std.specs.List.{All}
 use Rattle.std.proofs.lemmas.List.{reverse-append}
@@ -10,7 +10,7 @@ use Rattle.mdc_types.specs.declared.outcomes.Entry.{Entry}
 use Rattle.plain_history.specs.History.{Legal, values_at}
 use Rattle.plain_history.specs.Tables.{IsWithin}
 use Rattle.cluster_model.specs.State.{State, Core, Legs}
-use Rattle.cluster_model.specs.Run.{Run, Step}
+use Rattle.cluster_model.specs.Run.{Run}
 use Rattle.cluster_model.specs.Opening.{Origin, Opens}
 use Rattle.laws_sound.proofs.Ways.{Way, way_of, writes, puts, puts_io, puts_lost, ends, reads, gets, gets_io, gets_lost}
 use Rattle.laws_sound.proofs.Runs.{run_sound, run_sizes}

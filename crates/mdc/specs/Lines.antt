@@ -1,5 +1,6 @@
 -- What the lines of a script do, and what is printed for them.
 use Rattle.std.specs.Prelude.{◌≡◌, ◌⊎◌, ◌<◌, ◌≤◌, ℕ, true, false, List, [], ◌∷◌, ◌++◌, reverse, take, length, slice_get, codes, Option, Some, None}
+use Rattle.std.specs.Fmt.{decimal}
 use Rattle.mdc_types.specs.Geometry.{Sizes}
 use Rattle.mdc_types.specs.declared.numbers.Sector.{Sector}
 use Rattle.mdc_types.specs.declared.events.Event.{Event}
@@ -30,6 +31,10 @@ accepted_text o = printed (outcome_line o)
 abbrev pub refused_text : Refusal → List ℕ
 refused_text r = printed (codes "refused " ++ refusal_line r)
 
+-- what the query `check` prints: all the entries are a legal history
+abbrev pub legal_text : ℕ → List ℕ
+legal_text entries = printed (codes "legal " ++ decimal entries)
+
 -- a guard fails: the line says which one, and nothing changes
 pub record Refuses (old : State) (past : List Entry) (e : Event) (new : State) (later : List Entry) (text : List ℕ) : Type 0 where
   pub why : Refusal
@@ -49,9 +54,16 @@ pub record Accepts (old : State) (past : List Entry) (e : Event) (new : State) (
 abbrev pub TakesEvent : State → List Entry → Event → State → List Entry → List ℕ → Type 0
 TakesEvent old past e new later text = Refuses old past e new later text ⊎ Accepts old past e new later text
 
+-- the query `check`: the entries are legal, and nothing changes
+pub record Checks (old : State) (past : List Entry) (new : State) (later : List Entry) (text : List ℕ) : Type 0 where
+  pub same : new ≡ old
+  pub entries : later ≡ past
+  pub says : text ≡ legal_text (length past)
+
 -- one line
 abbrev pub Takes : State → List Entry → Line → State → List Entry → List ℕ → Type 0
 Takes old past (line_kinds.Event e) new later text = TakesEvent old past e new later text
+Takes old past line_kinds.Check new later text = Checks old past new later text
 
 -- The lines, the newest first, lead from start with no entries to end with these, and this text is printed for them in their order.
 abbrev pub Plays : State → List Line → State → List Entry → List ℕ → Type 0

@@ -47,6 +47,7 @@ pub fn open_world(alloc: Global, start: &Start) -> Result<World<MemLeg>, AllocEr
     requires array { is_ok (geometry_of start.now.legs start.now.sectors start.now.sectors start.now.chunk false) ≡ true }
     requires nodes { start.now.nodes ≤ 8 }
     requires spares { has_bit start.now.spares 0 ≡ false }
+    ensures origin { IfOk result (λ world. world.origin ≡ origin_of start.now) }
     ensures opens { IfOk result (λ world. Opens (origin_of start.now) (state world)) }
     ensures told { IfOk result (λ world. AllTold start.now (state world)) }
     ensures past { IfOk result (λ world. world.past ≡ []) }

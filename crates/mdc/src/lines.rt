@@ -1,14 +1,16 @@
-ghost use Rattle.std.specs.Prelude.{◌≡◌, ◌≤◌, ℕ, List, true, Err, IfOk, OnOk, take, []};
+ghost use Rattle.std.specs.Prelude.{◌≡◌, ◌≤◌, ℕ, List, true, Err, IfOk, OnOk, length, take, []};
 ghost use Rattle.std.specs.List.{AllByRecursion};
 ghost use Rattle.std.specs.String.{string_bytes};
 ghost use Rattle.mdc_types.specs.Faults.{Rose};
 ghost use Rattle.cluster_model.specs.Table.{is_built};
 ghost use Rattle.cluster_core.specs.World.{state};
+ghost use Rattle.laws_history.specs.Laws.{WorkingLegsTell};
 ghost use Rattle.script_text.specs.Script.{is_event_line};
 ghost use Rattle.script_text.specs.Outside.{with_back};
-ghost use Rattle.mdc.specs.Lines.{accepted_text, refused_text, TakesEvent, Takes, HaltsAt, FindsFull, Sofar, CutShort, RanFull};
+ghost use Rattle.mdc.specs.Lines.{accepted_text, refused_text, TakesEvent, Takes, HaltsAt, FindsFull, legal_text, Sofar, CutShort, RanFull};
 ghost use Rattle.script_text.specs.declared.script.Line.TheVariants.{Event as event_line};
 
+use crate::checking::checked_text;
 use cluster_core::{StepEnd, World};
 use leg_store::LegDev;
 use mdc_types::{Event, Outcome, Refusal};
@@ -53,6 +55,7 @@ fn take_event<L: LegDev>(alloc: Global, world: &mut World<L>, e: Event) -> Resul
     ensures memory { result ≡ Err LinesEnd.Memory → HaltsAt (state world.old) world.old.past (event_line e) (state world.new) world.new.past }
     ensures full { result ≡ Err LinesEnd.TraceFull → FindsFull (state world.old) world.old.past (event_line e) (state world.new) world.new.past }
     ensures write { result ≡ Err LinesEnd.Write → ⊥ }
+    ensures origin { OnOk result (world.new.origin ≡ world.old.origin) }
 {
     match world.step(e) {
         Ok(o) => match accepted_text(alloc, &o) {
@@ -68,11 +71,34 @@ fn take_event<L: LegDev>(alloc: Global, world: &mut World<L>, e: Event) -> Resul
     }
 }
 
-fn event_of(line: Line) -> Event
-    ensures { line ≡ event_line result }
+// The query, and the line that is to be printed for it.
+fn take_check<L: LegDev>(alloc: Global, world: &mut World<L>) -> Result<String, LinesEnd>
+    requires told { WorkingLegsTell world.old.origin (state world.old).legs }
+    requires base { length world.old.origin.base ≡ world.old.origin.sizes.room }
+    ensures same { world.new ≡ world.old }
+    ensures ok { IfOk result (λ t. string_bytes t ≡ legal_text (length world.old.past)) }
+    ensures memory { (why : LinesEnd) → result ≡ Err why → why ≡ LinesEnd.Memory }
+{
+    match checked_text(alloc, world) {
+        Ok(text) => Ok(text),
+        Err(_) => Err(LinesEnd::Memory),
+    }
+}
+
+// One line, and the line that is to be printed for it.
+fn take_line<L: LegDev>(alloc: Global, world: &mut World<L>, line: Line) -> Result<String, LinesEnd>
+    requires line { is_event_line line ≡ true }
+    requires told { WorkingLegsTell world.old.origin (state world.old).legs }
+    requires base { length world.old.origin.base ≡ world.old.origin.sizes.room }
+    ensures ok { IfOk result (λ t. Takes (state world.old) world.old.past line (state world.new) world.new.past (string_bytes t)) }
+    ensures memory { result ≡ Err LinesEnd.Memory → HaltsAt (state world.old) world.old.past line (state world.new) world.new.past }
+    ensures full { result ≡ Err LinesEnd.TraceFull → FindsFull (state world.old) world.old.past line (state world.new) world.new.past }
+    ensures write { result ≡ Err LinesEnd.Write → ⊥ }
+    ensures origin { OnOk result (world.new.origin ≡ world.old.origin) }
 {
     match line {
-        Line::Event(e) => e,
+        Line::Event(e) => take_event(alloc, world, e),
+        Line::Check => take_check(alloc, world),
     }
 }
 
@@ -83,7 +109,10 @@ fn play_line<L: LegDev, K: Sink>(
     line: Line,
     sink: &mut K,
 ) -> Result<(), LinesEnd>
-    requires { is_event_line line ≡ true }
+    requires line { is_event_line line ≡ true }
+    requires told { WorkingLegsTell world.old.origin (state world.old).legs }
+    requires base { length world.old.origin.base ≡ world.old.origin.sizes.room }
+    ensures origin { OnOk result (world.new.origin ≡ world.old.origin) }
     ensures ok { OnOk result ((text : List ℕ) × (Takes (state world.old) world.old.past line (state world.new) world.new.past text × (K.written sink.new ≡ with_back (K.written sink.old) text))) }
     ensures write { result ≡ Err LinesEnd.Write → (text : List ℕ) × ((n : ℕ) × (Takes (state world.old) world.old.past line (state world.new) world.new.past text × (K.written sink.new ≡ with_back (K.written sink.old) (take n text)))) }
     ensures rose { result ≡ Err LinesEnd.Write → Rose (K.faults sink.old) (K.faults sink.new) }
@@ -91,7 +120,7 @@ fn play_line<L: LegDev, K: Sink>(
     ensures full { result ≡ Err LinesEnd.TraceFull → FindsFull (state world.old) world.old.past line (state world.new) world.new.past × (K.written sink.new ≡ K.written sink.old) }
     ensures later { K.faults sink.old ≤ K.faults sink.new }
 {
-    match take_event(alloc, world, event_of(line)) {
+    match take_line(alloc, world, line) {
         Ok(text) => match write_all(sink, text.as_str().as_bytes()) {
             Ok(()) => Ok(()),
             Err(_) => Err(LinesEnd::Write),
@@ -109,6 +138,8 @@ pub fn play_lines<L: LegDev, K: Sink>(
 ) -> Result<(), LinesEnd>
     requires events { AllByRecursion (λ line. is_event_line line ≡ true) lines.now }
     requires fresh { world.old.past ≡ [] }
+    requires told { WorkingLegsTell world.old.origin (state world.old).legs }
+    requires base { length world.old.origin.base ≡ world.old.origin.sizes.room }
     ensures ok { OnOk result (Sofar (state world.old) lines.now (state world.new) world.new.past (K.written sink.old) (K.written sink.new)) }
     ensures write { result ≡ Err LinesEnd.Write → CutShort (state world.old) lines.now (state world.new) world.new.past (K.written sink.old) (K.written sink.new) }
     ensures rose { result ≡ Err LinesEnd.Write → Rose (K.faults sink.old) (K.faults sink.new) }

@@ -79,6 +79,18 @@ fn refusals(rt: HostRuntime) -> Result<(), AllocError> {
 
 // Node 1 reads from the leg that the write of node 0 hasn't reached, and node 0 from the one that it has.
 #[test]
+fn the_history_is_legal(rt: HostRuntime) -> Result<(), AllocError> {
+    let script = b"warm 2 16 4 1\nok 0 0\nw 0 5 01\nw 0 5 02\nr 0 5\nin 0 0\nin 0 0\ncheck\nend\n";
+    let played = play_words(rt.alloc(), &["play"], script)?;
+    assert_eq!(rt; played.status, Status::Done);
+    assert_eq!(rt;
+        played.sink.bytes(),
+        b"refused no-write 0\nwrite 0\nrefused in-flight 0\nread 0\nvalue 0 -\nrefused no-read 0\nlegal 3\n".as_slice()
+    );
+    Ok(())
+}
+
+#[test]
 fn two_nodes(rt: HostRuntime) -> Result<(), AllocError> {
     let script =
         b"warm 2 16 4 2\nw 0 14 6869\nout 0 0 0\nw 1 15 aa\nout 1 0 1\nr 1 14\nin 1 0\nr 0 14\nin 0 0\nend\n";
