@@ -37,8 +37,7 @@ fn one_script(rt: HostRuntime) -> Result<(), Fail> {
     value.bytes[0] = b'h';
     value.bytes[1] = b'i';
     for line in script.lines() {
-        let Line::Event(event) = line;
-        let Event::AskWrite(node, sector, written) = event else {
+        let Line::Event(Event::AskWrite(node, sector, written)) = line else {
             return Err("a write".into());
         };
         assert_eq!(rt; *node, 0);
@@ -107,6 +106,9 @@ fn scripts(rt: HostRuntime) -> Result<(), Fail> {
         ("W 0 5 -", false),
         ("cut 0 0", false),
         ("end 0", false),
+        ("check", true),
+        ("check 0", false),
+        ("check ", false),
     ] {
         let text = format!(in rt.alloc(); "warm 2 16 4 1\n{line}\nend\n")?;
         assert_eq!(rt;
