@@ -10,6 +10,8 @@
 //! Numbers are decimal, without leading zeros, and have 32 bits; those of nodes and legs have 8. A
 //! value is `-`, which is empty, or 2 to 1,024 lower-case hexadecimal digits, an even number of them.
 //! The rest of the sector is zero.
+//!
+//! Of bytes that are no script the first line outside the grammar is told, and what is wrong with it.
 #![tactic(auto)]
 
 mod command;
