@@ -15,7 +15,7 @@ use Rattle.script_text.specs.declared.faults.FaultKind.TheVariants as kinds
 use Rattle.script_text.specs.declared.faults.ScriptFault.{ScriptFault}
 use Rattle.script_text.specs.Steps.{guarded}
 use Rattle.script_text.specs.Judging.{◌>>=◌, at_line}
-use Rattle.script_text.specs.Script.{ScriptValue, number_word, byte_word, value_word, is_start, warm_with, start_with, warm_start, start_of, is_line_event, is_event_line, ask_write, out_write, end_write, ask_read, in_read, event_of, line_of, said_by, end_of, with_lines, line_then, body_of, header_then, script_in, judged}
+use Rattle.script_text.specs.Script.{ScriptValue, number_word, byte_word, value_word, is_start, warm_with, start_with, warm_start, start_of, is_line_event, is_event_line, ask_write, out_write, end_write, ask_read, in_read, event_of, event_line, check_line, line_of, said_by, end_of, with_lines, line_then, body_of, header_then, script_in, judged}
 
 bind_ok : {A B E : Type 0} (r : Result A E) (f : A → Result B E) (y : B) → (r >>= f) ≡ Ok y → (x : A) × (r ≡ Ok x) × (f x ≡ Ok y)
 bind_ok (Err e) f y is = cc
@@ -116,10 +116,17 @@ event_is word args e is =
     (λ is. chosen (bytes_eq word (codes "in")) _ _ (Ok e) _ is (in_read_is args e)
     (λ is. cc)))))
 
-line_is : (word : List ℕ) (args : List (List ℕ)) (line : Line) → line_of word args ≡ Ok line → is_event_line line ≡ true
-line_is word args line is =
+event_line_is : (word : List ℕ) (args : List (List ℕ)) (line : Line) → event_line word args ≡ Ok line → is_event_line line ≡ true
+event_line_is word args line is =
     let event = bind_ok (event_of word args) _ line is in
     subst (λ x. is_event_line x ≡ true) (ok_same event.2) (event_is word args event.0 event.1)
+
+check_line_is : (args : List (List ℕ)) (line : Line) → check_line args ≡ Ok line → is_event_line line ≡ true
+check_line_is [] line is = subst (λ x. is_event_line x ≡ true) (ok_same is) refl
+check_line_is (arg ∷ args) line is = cc
+
+line_is : (word : List ℕ) (args : List (List ℕ)) (line : Line) → line_of word args ≡ Ok line → is_event_line line ≡ true
+line_is word args line is = chosen (bytes_eq word (codes "check")) _ _ (Ok line) _ is (check_line_is args line) (event_line_is word args line)
 
 abbrev AreEvents : List Line → Type 0
 AreEvents lines = AllByRecursion (λ line. is_event_line line ≡ true) lines

@@ -16,7 +16,7 @@ use Rattle.script_text.specs.Judging.{at_line}
 use Rattle.script_text.specs.Lines.{lines_of, words_after}
 use Rattle.script_text.specs.Reading.{BeginsWithLine, ReadsLine, words_read}
 use Rattle.script_text.proofs.LinesLaws.{words_some}
-use Rattle.script_text.specs.Script.{said_by, words_said, end_of, line_of, line_then, onto_lines, body_of, header_then, script_in}
+use Rattle.script_text.specs.Script.{said_by, words_said, end_of, check_line, line_of, line_then, onto_lines, body_of, header_then, script_in}
 
 not_text : (bytes : List ℕ) → ¬ (IsUtf8 bytes) → is_utf8 bytes ≡ false
 not_text bytes wrong = elim (is_utf8 bytes) as (λ b. is_utf8 bytes ≡ b → b ≡ false) [
@@ -119,6 +119,11 @@ onto_lines-wrong (Ok line) fault later is = cc
 pub end_more : (args : Option (Bor (List ℕ))) → true ≡ is_some args → end_of (words_after (option_copied args)) ≡ Err kinds.Count
 end_more None some = cc
 end_more (Some more) some = let w = words_some more.now in rw w.2 refl
+
+-- words stand after `check`
+pub check_more : (args : Option (Bor (List ℕ))) → true ≡ is_some args → check_line (words_after (option_copied args)) ≡ Err kinds.Count
+check_more None some = cc
+check_more (Some more) some = let w = words_some more.now in rw w.2 refl
 
 -- Lines were read, and then line n.
 module _ (whole : Result (List Line) ScriptFault) (front : List Line) (bytes : List ℕ) (n room : ℕ) (r : Result Found FaultKind) (so_far : whole ≡ after_lines front (body_of n room (lines_of bytes)))

@@ -88,10 +88,18 @@ event_of word args =
     else if bytes_eq word (codes "in") then in_read args
     else Err kinds.Word
 
-abbrev pub line_of : List ℕ → List (List ℕ) → Result Line FaultKind
-line_of word args = do
+abbrev pub event_line : List ℕ → List (List ℕ) → Result Line FaultKind
+event_line word args = do
   event ← event_of word args
   Ok (line_kinds.Event event)
+
+-- the query `check`
+abbrev pub check_line : List (List ℕ) → Result Line FaultKind
+check_line [] = Ok line_kinds.Check
+check_line (arg ∷ args) = Err kinds.Count
+
+abbrev pub line_of : List ℕ → List (List ℕ) → Result Line FaultKind
+line_of word args = if bytes_eq word (codes "check") then check_line args else event_line word args
 
 -- whether a line's event is one of those above
 abbrev pub is_line_event : Event → Bool
@@ -102,8 +110,10 @@ is_line_event (AskRead n s) = true
 is_line_event (In n k) = true
 is_line_event e = false
 
+-- a query has no event
 abbrev pub is_event_line : Line → Bool
 is_event_line (line_kinds.Event event) = is_line_event event
+is_event_line line_kinds.Check = true
 
 -- The header.
 

@@ -1,7 +1,7 @@
 ghost use Rattle.std.specs.Prelude.{◌≡◌};
 ghost use Rattle.std.specs.Option.{option_copied};
 ghost use Rattle.script_text.specs.Lines.{words_after};
-ghost use Rattle.script_text.specs.Script.{event_of, line_of, ask_write, out_write, end_write, ask_read, in_read};
+ghost use Rattle.script_text.specs.Script.{event_of, event_line, check_line, line_of, ask_write, out_write, end_write, ask_read, in_read};
 
 use crate::lines::{three, two};
 use crate::numbers::{byte_word, number_word, value_word};
@@ -56,9 +56,27 @@ fn event(word: &str, args: Option<&str>) -> Result<Event, FaultKind>
     }
 }
 
+fn event_line(word: &str, args: Option<&str>) -> Result<Line, FaultKind>
+    ensures { result ≡ event_line word.now (words_after (option_copied args.entry)) }
+{
+    Ok(Line::Event(event(word, args)?))
+}
+
+fn check_line(args: Option<&str>) -> Result<Line, FaultKind>
+    ensures { result ≡ check_line (words_after (option_copied args.entry)) }
+{
+    if args.is_some() {
+        return Err(FaultKind::Count);
+    }
+    Ok(Line::Check)
+}
+
 /// The line of this first word and the words after it.
 pub(crate) fn line(word: &str, args: Option<&str>) -> Result<Line, FaultKind>
     ensures { result ≡ line_of word.now (words_after (option_copied args.entry)) }
 {
-    Ok(Line::Event(event(word, args)?))
+    match word {
+        "check" => check_line(args),
+        _ => event_line(word, args),
+    }
 }

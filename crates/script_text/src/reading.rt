@@ -112,7 +112,8 @@ pub fn read_script(alloc: Global, bytes: &[u8]) -> Result<Script, ScriptEnd>
     // It is this script, or the bytes have this fault, or memory is wanting.
     ensures reads { Reads result bytes.now }
 
-    // What is read is an array of 1 to 8 nodes without spares, and lines of events that scripts have.
+    // What is read is an array of 1 to 8 nodes without spares, and its lines are queries and events that
+    // scripts have.
     ensures array { IfOk result (λ s. is_ok (geometry_of s.start.legs s.start.sectors s.start.sectors s.start.chunk false) ≡ true) }
     ensures some_node { IfOk result (λ s. 1 ≤ s.start.nodes) }
     ensures nodes { IfOk result (λ s. s.start.nodes ≤ 8) }

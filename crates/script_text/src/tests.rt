@@ -35,8 +35,7 @@ fn one_script(rt: HostRuntime) -> Result<(), Fail> {
     value.bytes[0] = b'h';
     value.bytes[1] = b'i';
     for line in script.lines() {
-        let Line::Event(event) = line;
-        let Event::AskWrite(node, sector, written) = event else {
+        let Line::Event(Event::AskWrite(node, sector, written)) = line else {
             return Err("a write".into());
         };
         assert_eq!(rt; *node, 0);
@@ -92,6 +91,7 @@ fn scripts(rt: HostRuntime) -> Result<(), Fail> {
         ("r 0 5", "ok"),
         ("in 0 0", "ok"),
         ("w 0 5 0f", "ok"),
+        ("check", "ok"),
         ("w 256 5 -", "2 number"),
         ("w 0 4294967296 -", "2 number"),
         ("w 0 05 01", "2 number"),
@@ -116,6 +116,8 @@ fn scripts(rt: HostRuntime) -> Result<(), Fail> {
         (" w 0 5 -", "2 word"),
         ("cut 0 0", "2 word"),
         ("end 0", "2 count"),
+        ("check 0", "2 count"),
+        ("check ", "2 count"),
     ] {
         let text = format!(in rt.alloc(); "warm 2 16 4 1\n{line}\nend\n")?;
         let told = judged(rt.alloc(), text.as_bytes())?;
