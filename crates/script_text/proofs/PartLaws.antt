@@ -1,75 +1,84 @@
 -- What is taken of the input is judged as all of it.
-use Rattle.std.proofs.Common.{◌≡◌, ◌⊎◌, inl, inr, ℕ, zero, suc, ◌+◌, ◌-◌, ◌<◌, ◌≤◌, ◌==◌, nat_le, Bool, true, false, ◌&&◌, cond, List, [], ◌∷◌, ◌++◌, length, take, Option, None, refl, ap, subst, sym, ◌∙◌, arith}
+use Rattle.std.proofs.Common.{◌≡◌, ◌⊎◌, inl, inr, ℕ, zero, suc, ◌+◌, ◌-◌, ◌<◌, ◌≤◌, ◌==◌, nat_lt, Bool, true, false, cond, List, [], ◌∷◌, ◌++◌, length, take, Result, Ok, Err, refl, ap, subst, sym, ◌∙◌, arith}
 use Rattle.std.proofs.lemmas.Bool.Decides.{nat_tests}
 use Rattle.std.proofs.lemmas.List.{append_assoc, take_all, take-append-le, length-append, length-take}
 use Rattle.std.proofs.lemmas.Slice.Eq.{bytes_eq-Decides}
 use Rattle.std.proofs.Math.Seq.{take-append-add}
 use Rattle.std.specs.Str.{bytes_eq, is_utf8}
 use Rattle.script_text.specs.declared.script.Line.{Line}
-use Rattle.script_text.specs.Steps.{guarded}
+use Rattle.script_text.specs.declared.faults.FaultKind.{FaultKind}
+use Rattle.script_text.specs.declared.faults.FaultKind.TheVariants as kinds
+use Rattle.script_text.specs.declared.faults.ScriptFault.{ScriptFault}
+use Rattle.script_text.specs.Judging.{at_line}
 use Rattle.script_text.specs.Lines.{lines_of, text_of, through_end, up_to_end, input_part, script_limit}
-use Rattle.script_text.specs.Script.{ScriptValue, said_by, words_said, line_then, body_of, header_then, script_in, script_of}
+use Rattle.script_text.specs.Script.{ScriptValue, said_by, words_said, line_then, body_of, header_then, script_in, judged}
 use Rattle.script_text.proofs.LinesLaws.{lines_only}
 use Rattle.script_text.proofs.InputLaws.{IsText, IsText-tail, lines_at_feed, text_read, line_read, end_read, end_line}
 
--- two lists of lines of which the same is read
-record Same (room : ℕ) (xs ys : List (List ℕ)) : Type 0 where
-  body : body_of room xs ≡ body_of room ys
-  script : script_in room xs ≡ script_in room ys
+-- two lists of lines of which the same is read, from line n on
+record Same (n room : ℕ) (xs ys : List (List ℕ)) : Type 0 where
+  body : body_of n room xs ≡ body_of n room ys
+  script : script_in n room xs ≡ script_in n room ys
 
-same_more : (room : ℕ) (line : List ℕ) (xs ys : List (List ℕ)) → Same (room - length line) xs ys → Same room (line ∷ xs) (line ∷ ys)
-same_more room line xs ys s = record {
-  body = ap (line_then (said_by room line)) s.body;
-  script = ap (λ later. header_then (said_by room line) later (body_of (room - length line) xs)) s.script
-      ∙ ap (header_then (said_by room line) (script_in (room - length line) ys)) s.body;
+same_more : (n room : ℕ) (line : List ℕ) (xs ys : List (List ℕ)) → Same (n + 1) (room - length line) xs ys → Same n room (line ∷ xs) (line ∷ ys)
+same_more n room line xs ys s = record {
+  body = ap (line_then n (said_by room line)) s.body;
+  script = ap (λ later. header_then n (said_by room line) later (body_of (n + 1) (room - length line) xs)) s.script
+      ∙ ap (header_then n (said_by room line) (script_in (n + 1) (room - length line) ys)) s.body;
 }
 
 -- there is no room for the line
-said_long : (room : ℕ) (line : List ℕ) → room < length line → said_by room line ≡ None
-said_long room line long = let t : nat_le (length line) room ≡ false = grind (arith, nat_tests) in rw t refl
+said_long : (room : ℕ) (line : List ℕ) → room < length line → said_by room line ≡ Err kinds.Long
+said_long room line long = let t : nat_lt room (length line) ≡ true = grind (arith, nat_tests) in rw t refl
 
-body_long : (room : ℕ) (line : List ℕ) (xs : List (List ℕ)) → room < length line → body_of room (line ∷ xs) ≡ None
-body_long room line xs long = ap (λ said. line_then said (body_of (room - length line) xs)) (said_long room line long)
+body_long : (n room : ℕ) (line : List ℕ) (xs : List (List ℕ)) → room < length line → body_of n room (line ∷ xs) ≡ at_line n (Err kinds.Long)
+body_long n room line xs long = ap (λ said. line_then n said (body_of (n + 1) (room - length line) xs)) (said_long room line long)
 
-script_long : (room : ℕ) (line : List ℕ) (xs : List (List ℕ)) → room < length line → script_in room (line ∷ xs) ≡ None
-script_long room line xs long = ap (λ said. header_then said (script_in (room - length line) xs) (body_of (room - length line) xs)) (said_long room line long)
+script_long : (n room : ℕ) (line : List ℕ) (xs : List (List ℕ)) → room < length line → script_in n room (line ∷ xs) ≡ at_line n (Err kinds.Long)
+script_long n room line xs long =
+    ap (λ said. header_then n said (script_in (n + 1) (room - length line) xs) (body_of (n + 1) (room - length line) xs)) (said_long room line long)
 
-same_long : (room : ℕ) (a b : List ℕ) (xs ys : List (List ℕ)) → room < length a → room < length b → Same room (a ∷ xs) (b ∷ ys)
-same_long room a b xs ys long longer = record {
-  body = body_long room a xs long ∙ sym (body_long room b ys longer);
-  script = script_long room a xs long ∙ sym (script_long room b ys longer);
+same_long : (n room : ℕ) (a b : List ℕ) (xs ys : List (List ℕ)) → room < length a → room < length b → Same n room (a ∷ xs) (b ∷ ys)
+same_long n room a b xs ys long longer = record {
+  body = body_long n room a xs long ∙ sym (body_long n room b ys longer);
+  script = script_long n room a xs long ∙ sym (script_long n room b ys longer);
 }
 
 -- after the line `end` nothing is judged
-end_then : (b : Bool) (xs ys : Option (List Line)) → line_then (guarded b (words_said (text_of end_line))) xs ≡ line_then (guarded b (words_said (text_of end_line))) ys
-end_then true xs ys = refl
-end_then false xs ys = refl
+abbrev end_said : Bool → Bool → Result (List (List ℕ)) FaultKind
+end_said long text = cond long (Err kinds.Long) (cond text (Ok (words_said (text_of end_line))) (Err kinds.Utf8))
 
-end_first : (b : Bool) (xs ys : Option ScriptValue) (body body₂ : Option (List Line))
-    → header_then (guarded b (words_said (text_of end_line))) xs body ≡ header_then (guarded b (words_said (text_of end_line))) ys body₂
-end_first true xs ys body body₂ = refl
-end_first false xs ys body body₂ = refl
+end_then : (n : ℕ) (long text : Bool) (xs ys : Result (List Line) ScriptFault) → line_then n (end_said long text) xs ≡ line_then n (end_said long text) ys
+end_then n true text xs ys = refl
+end_then n false true xs ys = refl
+end_then n false false xs ys = refl
 
-same_end : (room : ℕ) (xs ys : List (List ℕ)) → Same room (end_line ∷ xs) (end_line ∷ ys)
-same_end room xs ys = record {
-  body = end_then (nat_le (length end_line) room && is_utf8 (text_of end_line)) (body_of (room - length end_line) xs) (body_of (room - length end_line) ys);
-  script = end_first (nat_le (length end_line) room && is_utf8 (text_of end_line)) (script_in (room - length end_line) xs) (script_in (room - length end_line) ys)
-      (body_of (room - length end_line) xs) (body_of (room - length end_line) ys);
+end_first : (n : ℕ) (long text : Bool) (xs ys : Result ScriptValue ScriptFault) (body body₂ : Result (List Line) ScriptFault)
+    → header_then n (end_said long text) xs body ≡ header_then n (end_said long text) ys body₂
+end_first n true text xs ys body body₂ = refl
+end_first n false true xs ys body body₂ = refl
+end_first n false false xs ys body body₂ = refl
+
+same_end : (n room : ℕ) (xs ys : List (List ℕ)) → Same n room (end_line ∷ xs) (end_line ∷ ys)
+same_end n room xs ys = record {
+  body = end_then n (nat_lt room (length end_line)) (is_utf8 (text_of end_line)) (body_of (n + 1) (room - length end_line) xs) (body_of (n + 1) (room - length end_line) ys);
+  script = end_first n (nat_lt room (length end_line)) (is_utf8 (text_of end_line)) (script_in (n + 1) (room - length end_line) xs) (script_in (n + 1) (room - length end_line) ys)
+      (body_of (n + 1) (room - length end_line) xs) (body_of (n + 1) (room - length end_line) ys);
 }
 
-same_refl : (room : ℕ) (xs : List (List ℕ)) → Same room xs xs
-same_refl room xs = record { body = refl; script = refl }
+same_refl : (n room : ℕ) (xs : List (List ℕ)) → Same n room xs xs
+same_refl n room xs = record { body = refl; script = refl }
 
 is_end_line : (line : List ℕ) → bytes_eq line end_line ≡ true → line ≡ end_line
 is_end_line line is = grind (arith, bytes_eq-Decides line end_line)
 
 -- the lines up to `end`, and all lines
-same_through : (room : ℕ) (lines : List (List ℕ)) → Same room (through_end lines) lines
-same_through room [] = same_refl room []
-same_through room (line ∷ lines) =
-    elim (bytes_eq line end_line) as (λ b. bytes_eq line end_line ≡ b → Same room (cond b (line ∷ []) (line ∷ through_end lines)) (line ∷ lines)) [
-      | true ↦ λ t. subst (λ l. Same room (l ∷ []) (l ∷ lines)) (sym (is_end_line line t)) (same_end room [] lines)
-      | false ↦ λ t. same_more room line (through_end lines) lines (same_through (room - length line) lines)
+same_through : (n room : ℕ) (lines : List (List ℕ)) → Same n room (through_end lines) lines
+same_through n room [] = same_refl n room []
+same_through n room (line ∷ lines) =
+    elim (bytes_eq line end_line) as (λ b. bytes_eq line end_line ≡ b → Same n room (cond b (line ∷ []) (line ∷ through_end lines)) (line ∷ lines)) [
+      | true ↦ λ t. subst (λ l. Same n room (l ∷ []) (l ∷ lines)) (sym (is_end_line line t)) (same_end n room [] lines)
+      | false ↦ λ t. same_more n room line (through_end lines) lines (same_through (n + 1) (room - length line) lines)
     ] refl
 
 -- Bytes are one text, or begin with a text and a line feed.
@@ -137,60 +146,60 @@ text_lines text t some = lines_only text some t.is
 le_cases : (m n : ℕ) → (m ≤ n) ⊎ (n < m)
 le_cases m n = grind (arith, nat_tests)
 
-same_of : (room : ℕ) (xs ys zs : List (List ℕ)) → xs ≡ ys → Same room ys zs → Same room xs zs
-same_of room xs ys zs e s = subst (λ x. Same room x zs) (sym e) s
+same_of : (n room : ℕ) (xs ys zs : List (List ℕ)) → xs ≡ ys → Same n room ys zs → Same n room xs zs
+same_of n room xs ys zs e s = subst (λ x. Same n room x zs) (sym e) s
 
-cut_text : (room : ℕ) (bytes : List ℕ) → IsText bytes → Same room (lines_of (take (room + 1) bytes)) (lines_of bytes)
-cut_text room bytes t = elim (le_cases (length bytes) (room + 1)) [
-  | inl few ↦ subst (λ bs. Same room (lines_of bs) (lines_of bytes)) (sym (take_all (room + 1) bytes few)) (same_refl room (lines_of bytes))
+cut_text : (n room : ℕ) (bytes : List ℕ) → IsText bytes → Same n room (lines_of (take (room + 1) bytes)) (lines_of bytes)
+cut_text n room bytes t = elim (le_cases (length bytes) (room + 1)) [
+  | inl few ↦ subst (λ bs. Same n room (lines_of bs) (lines_of bytes)) (sym (take_all (room + 1) bytes few)) (same_refl n room (lines_of bytes))
   | inr many ↦
       let size : length (take (room + 1) bytes) ≡ room + 1 = omega (arith, length-take (room + 1) bytes) in
-      same_of room _ _ _ (text_lines (take (room + 1) bytes) (IsText-take (room + 1) bytes t) (omega arith))
-      (subst (λ ys. Same room (take (room + 1) bytes ∷ []) ys) (sym (text_lines bytes t (omega arith))) (same_long room (take (room + 1) bytes) bytes [] [] (omega arith) (omega arith)))
+      same_of n room _ _ _ (text_lines (take (room + 1) bytes) (IsText-take (room + 1) bytes t) (omega arith))
+      (subst (λ ys. Same n room (take (room + 1) bytes ∷ []) ys) (sym (text_lines bytes t (omega arith))) (same_long n room (take (room + 1) bytes) bytes [] [] (omega arith) (omega arith)))
 ]
 
 -- the line holds the last byte that is taken, and is too long
-cut_line : (room : ℕ) (text rest : List ℕ) → IsText text → room < length text + 1 → Same room (lines_of (take (room + 1) (text ++ 10 ∷ rest))) (lines_of (text ++ 10 ∷ rest))
-cut_line room text rest t long =
+cut_line : (n room : ℕ) (text rest : List ℕ) → IsText text → room < length text + 1 → Same n room (lines_of (take (room + 1) (text ++ 10 ∷ rest))) (lines_of (text ++ 10 ∷ rest))
+cut_line n room text rest t long =
     let all : lines_of (text ++ 10 ∷ rest) ≡ (text ++ 10 ∷ []) ∷ lines_of rest = lines_at_feed text rest t in
     let size : length (text ++ 10 ∷ []) ≡ length text + 1 = length-append text (10 ∷ []) in
-    subst (λ ys. Same room (lines_of (take (room + 1) (text ++ 10 ∷ rest))) ys) (sym all) (elim (le_cases (room + 1) (length text)) [
+    subst (λ ys. Same n room (lines_of (take (room + 1) (text ++ 10 ∷ rest))) ys) (sym all) (elim (le_cases (room + 1) (length text)) [
       | inl within ↦
           let front : take (room + 1) (text ++ 10 ∷ rest) ≡ take (room + 1) text = take-append-le (room + 1) text (10 ∷ rest) within in
           let size₂ : length (take (room + 1) text) ≡ room + 1 = omega (arith, length-take (room + 1) text) in
-          same_of room _ _ _ (ap lines_of front ∙ text_lines (take (room + 1) text) (IsText-take (room + 1) text t) (omega arith))
-          (same_long room (take (room + 1) text) (text ++ 10 ∷ []) [] (lines_of rest) (omega arith) (omega arith))
+          same_of n room _ _ _ (ap lines_of front ∙ text_lines (take (room + 1) text) (IsText-take (room + 1) text t) (omega arith))
+          (same_long n room (take (room + 1) text) (text ++ 10 ∷ []) [] (lines_of rest) (omega arith) (omega arith))
       | inr at ↦
           let front : take (room + 1) (text ++ 10 ∷ rest) ≡ text ++ 10 ∷ [] =
           ap (take (room + 1)) (sym (append_assoc text (10 ∷ []) rest)) ∙ (take-append-le (room + 1) (text ++ 10 ∷ []) rest (omega arith) ∙ take_all (room + 1) (text ++ 10 ∷ []) (omega arith)) in
-          same_of room _ _ _ (ap lines_of front ∙ lines_at_feed text [] t)
-          (same_long room (text ++ 10 ∷ []) (text ++ 10 ∷ []) [] (lines_of rest) (omega arith) (omega arith))
+          same_of n room _ _ _ (ap lines_of front ∙ lines_at_feed text [] t)
+          (same_long n room (text ++ 10 ∷ []) (text ++ 10 ∷ []) [] (lines_of rest) (omega arith) (omega arith))
     ])
 
-cut_later : (room : ℕ) (text rest : List ℕ) → IsText text → length text + 1 ≤ room
-    → Same (room - length (text ++ 10 ∷ [])) (lines_of (take (room - length (text ++ 10 ∷ []) + 1) rest)) (lines_of rest)
-    → Same room (lines_of (take (room + 1) (text ++ 10 ∷ rest))) (lines_of (text ++ 10 ∷ rest))
-cut_later room text rest t fits s =
+cut_later : (n room : ℕ) (text rest : List ℕ) → IsText text → length text + 1 ≤ room
+    → Same (n + 1) (room - length (text ++ 10 ∷ [])) (lines_of (take (room - length (text ++ 10 ∷ []) + 1) rest)) (lines_of rest)
+    → Same n room (lines_of (take (room + 1) (text ++ 10 ∷ rest))) (lines_of (text ++ 10 ∷ rest))
+cut_later n room text rest t fits s =
     let size : length (text ++ 10 ∷ []) ≡ length text + 1 = length-append text (10 ∷ []) in
     let split : room + 1 ≡ length (text ++ 10 ∷ []) + (room - length (text ++ 10 ∷ []) + 1) = omega arith in
     let front : take (room + 1) (text ++ 10 ∷ rest) ≡ text ++ 10 ∷ take (room - length (text ++ 10 ∷ []) + 1) rest =
     ap (take (room + 1)) (sym (append_assoc text (10 ∷ []) rest)) ∙ (ap (λ m. take m ((text ++ 10 ∷ []) ++ rest)) split
     ∙ (take-append-add (text ++ 10 ∷ []) rest (room - length (text ++ 10 ∷ []) + 1) ∙ append_assoc text (10 ∷ []) (take (room - length (text ++ 10 ∷ []) + 1) rest))) in
-    subst (λ ys. Same room (lines_of (take (room + 1) (text ++ 10 ∷ rest))) ys) (sym (lines_at_feed text rest t))
-    (same_of room _ _ _ (ap lines_of front ∙ lines_at_feed text (take (room - length (text ++ 10 ∷ []) + 1) rest) t)
-    (same_more room (text ++ 10 ∷ []) (lines_of (take (room - length (text ++ 10 ∷ []) + 1) rest)) (lines_of rest) s))
+    subst (λ ys. Same n room (lines_of (take (room + 1) (text ++ 10 ∷ rest))) ys) (sym (lines_at_feed text rest t))
+    (same_of n room _ _ _ (ap lines_of front ∙ lines_at_feed text (take (room - length (text ++ 10 ∷ []) + 1) rest) t)
+    (same_more n room (text ++ 10 ∷ []) (lines_of (take (room - length (text ++ 10 ∷ []) + 1) rest)) (lines_of rest) s))
 
-same_cut : (n room : ℕ) (bytes : List ℕ) → length bytes < n → Same room (lines_of (take (room + 1) bytes)) (lines_of bytes)
-same_cut zero room bytes lt = absurd (omega arith)
-same_cut (suc n) room bytes lt = elim (first_text bytes) [
-  | inl text ↦ cut_text room bytes text
-  | inr b ↦ subst (λ bs. Same room (lines_of (take (room + 1) bs)) (lines_of bs)) (sym b.is) (elim (le_cases (length b.text + 1) room) [
-    | inl fits ↦ cut_later room b.text b.rest b.is_text fits (same_cut n (room - length (b.text ++ 10 ∷ [])) b.rest (broken_less bytes b n lt))
-    | inr long ↦ cut_line room b.text b.rest b.is_text long
+same_cut : (k n room : ℕ) (bytes : List ℕ) → length bytes < k → Same n room (lines_of (take (room + 1) bytes)) (lines_of bytes)
+same_cut zero n room bytes lt = absurd (omega arith)
+same_cut (suc k) n room bytes lt = elim (first_text bytes) [
+  | inl text ↦ cut_text n room bytes text
+  | inr b ↦ subst (λ bs. Same n room (lines_of (take (room + 1) bs)) (lines_of bs)) (sym b.is) (elim (le_cases (length b.text + 1) room) [
+    | inl fits ↦ cut_later n room b.text b.rest b.is_text fits (same_cut k (n + 1) (room - length (b.text ++ 10 ∷ [])) b.rest (broken_less bytes b k lt))
+    | inr long ↦ cut_line n room b.text b.rest b.is_text long
   ])
 ]
 
-pub part_judged : (bytes : List ℕ) → script_of (input_part bytes) ≡ script_of bytes
+pub part_judged : (bytes : List ℕ) → judged (input_part bytes) ≡ judged bytes
 part_judged bytes =
-    (same_cut (length (up_to_end bytes) + 1) script_limit (up_to_end bytes) (omega arith)).script
-    ∙ (ap (script_in script_limit) (lines_taken (length bytes + 1) bytes (omega arith)) ∙ (same_through script_limit (lines_of bytes)).script)
+    (same_cut (length (up_to_end bytes) + 1) 1 script_limit (up_to_end bytes) (omega arith)).script
+    ∙ (ap (script_in 1 script_limit) (lines_taken (length bytes + 1) bytes (omega arith)) ∙ (same_through 1 script_limit (lines_of bytes)).script)

@@ -1,19 +1,22 @@
 -- What a line says.
-use Rattle.std.proofs.Common.{◌≡◌, ℕ, ◌-◌, ◌≤◌, nat_le, Bool, true, false, not, ◌&&◌, cond, List, [], ◌∷◌, ◌++◌, length, Option, Some, None, Result, Ok, Err, refl, ap, sym, ◌∙◌, arith}
+use Rattle.std.proofs.Common.{◌≡◌, ℕ, ◌+◌, ◌-◌, ◌<◌, ◌≤◌, nat_lt, true, false, List, [], ◌∷◌, ◌++◌, length, Option, Some, None, Result, Ok, Err, refl, ap, sym, subst, ◌∙◌, arith}
 use Rattle.std.proofs.lemmas.Bool.Decides.{nat_tests}
+use Rattle.std.proofs.lemmas.List.{append_assoc}
 use Rattle.std.proofs.lemmas.Str.{IsUtf8-from_is_utf8, is_utf8-from_IsUtf8}
 use Rattle.std.specs.Borrow.{Bor}
-use Rattle.std.specs.Result.{MatchResult, result_ok}
-use Rattle.std.specs.Option.{option_copied}
 use Rattle.std.specs.Prelude.{is_some, codes}
+use Rattle.std.specs.Result.{MatchResult}
+use Rattle.std.specs.Option.{option_copied}
 use Rattle.std.specs.Str.{IsUtf8, is_utf8, bytes_eq}
-use Rattle.std.proofs.lemmas.List.{append_assoc}
-use Rattle.script_text.specs.Steps.{guarded}
-use Rattle.script_text.specs.Lines.{lines_of, words_after}
-use Rattle.script_text.specs.Reading.{BeginsWithLine, ReadsLine}
-use Rattle.script_text.specs.Script.{said_by, words_said, is_end, is_check, line_of, line_then, onto_lines, body_of}
-use Rattle.script_text.proofs.LinesLaws.{words_some}
+use Rattle.script_text.specs.declared.faults.FaultKind.{FaultKind}
+use Rattle.script_text.specs.declared.faults.FaultKind.TheVariants as kinds
+use Rattle.script_text.specs.declared.faults.ScriptFault.{ScriptFault}
 use Rattle.script_text.specs.declared.script.Line.{Line}
+use Rattle.script_text.specs.Judging.{at_line}
+use Rattle.script_text.specs.Lines.{lines_of, words_after}
+use Rattle.script_text.specs.Reading.{BeginsWithLine, ReadsLine, words_read}
+use Rattle.script_text.proofs.LinesLaws.{words_some}
+use Rattle.script_text.specs.Script.{said_by, words_said, end_of, check_line, line_of, line_then, onto_lines, body_of, header_then, script_in}
 
 not_text : (bytes : List ℕ) → ¬ (IsUtf8 bytes) → is_utf8 bytes ≡ false
 not_text bytes wrong = elim (is_utf8 bytes) as (λ b. is_utf8 bytes ≡ b → b ≡ false) [
@@ -21,57 +24,126 @@ not_text bytes wrong = elim (is_utf8 bytes) as (λ b. is_utf8 bytes ≡ b → b 
   | false ↦ λ t. refl
 ] refl
 
--- `from_utf8` and `ok` of the text of a line that begins the bytes
-module _ {E : Type 0} (bytes text rest : List ℕ) (room : ℕ) (b : BeginsWithLine bytes text rest) where
-  pub wrong_text : (Q : E → Type 0) (r : Result (Bor (List ℕ)) E) → MatchResult r (λ s. (s.now ≡ text) × IsUtf8 text) (λ e. ¬ (IsUtf8 text) × Q e) → result_ok r ≡ None
-      → ReadsLine bytes room None
-  wrong_text Q (Ok s) h is = cc
-  wrong_text Q (Err e) h is = (
-    b.line,
-    rest,
-    b.lines,
-    rw (b.text_is, not_text text h.0) (elim (nat_le (length b.line) room) as (λ v. guarded (v && false) (words_said text) ≡ None) [ true ↦ refl | false ↦ refl ]),
-  )
+-- the first line of the bytes, its text and what follows it
+module _ (bytes text rest : List ℕ) (room : ℕ) (b : BeginsWithLine bytes text rest) where
+  pub too_long : room < length bytes - length rest → ReadsLine bytes room (Err kinds.Long)
+  too_long long =
+      let past : nat_lt room (length b.line) ≡ true = grind (arith, nat_tests, b.size) in
+      (b.line, rest, b.lines, rw past refl)
 
-  pub right_text : (Q : E → Type 0) (r : Result (Bor (List ℕ)) E) (s : Bor (List ℕ)) → MatchResult r (λ s. (s.now ≡ text) × IsUtf8 text) (λ e. ¬ (IsUtf8 text) × Q e) → result_ok r ≡ Some s
-      → length bytes - length rest ≤ room → said_by room b.line ≡ Some (words_said s.now)
-  right_text Q (Ok t) s h is fits =
+  pub wrong_text : {E : Type 0} (Q : E → Type 0) (r : Result (Bor (List ℕ)) E) → MatchResult r (λ s. (s.now ≡ text) × IsUtf8 text) (λ e. ¬ (IsUtf8 text) × Q e)
+      → (e : E) → r ≡ Err e → length bytes - length rest ≤ room → ReadsLine bytes room (Err kinds.Utf8)
+  wrong_text Q (Ok s) h e is fits = cc
+  wrong_text Q (Err d) h e is fits =
+      let within : nat_lt room (length b.line) ≡ false = grind (arith, nat_tests, b.size) in
+      (b.line, rest, b.lines, rw (within, b.text_is, not_text text h.0) refl)
+
+  pub right_text : {E : Type 0} (Q : E → Type 0) (r : Result (Bor (List ℕ)) E) → MatchResult r (λ s. (s.now ≡ text) × IsUtf8 text) (λ e. ¬ (IsUtf8 text) × Q e)
+      → (s : Bor (List ℕ)) → r ≡ Ok s → length bytes - length rest ≤ room → said_by room b.line ≡ Ok (words_said s.now)
+  right_text Q (Ok t) h s is fits =
       let same : t ≡ s = cc in
-      let within : nat_le (length b.line) room ≡ true = grind (arith, nat_tests, b.size) in
+      let within : nat_lt room (length b.line) ≡ false = grind (arith, nat_tests, b.size) in
       rw (within, b.text_is, is_utf8-from_IsUtf8 text h.1, sym same, h.0) refl
-  right_text Q (Err e) s h is fits = cc
+  right_text Q (Err e) h s is fits = cc
+
+abbrev err_with : {E : Type 0} (A : Type 0) → E → Result A E
+err_with A e = Err e
+
+err_same : {A E : Type 0} {x y : E} → err_with A x ≡ err_with A y → x ≡ y
+err_same is = cc
+
+-- What was read of a line.
+abbrev pub Found : Type 0
+Found = Option (Bor (List ℕ) × Option (Bor (List ℕ))) × Bor (List ℕ) × ℕ
+
+-- line n, which begins the bytes, and what was read of it
+module _ (bytes : List ℕ) (n room : ℕ) where
+  pub found_read : (r : Result Found FaultKind) (x : Found) → ReadsLine bytes room r → at_line n r ≡ Ok x → ReadsLine bytes room (Ok x)
+  found_read (Err kind) x h is = cc
+  found_read (Ok y) x h is = let same : y ≡ x = cc in subst (λ z. ReadsLine bytes room (Ok z)) same h
+
+  pub body_first : (r : Result Found FaultKind) (x : Found) → ReadsLine bytes room r → at_line n r ≡ Ok x
+      → body_of n room (lines_of bytes) ≡ line_then n (Ok (words_read x.0)) (body_of (n + 1) x.2 (lines_of x.1.now))
+  body_first r x h is =
+      let f = found_read r x h is in
+      ap (body_of n room) f.1
+      ∙ (ap (λ said. line_then n said (body_of (n + 1) (room - length f.0) (lines_of x.1.now))) f.2
+      ∙ ap (λ left. line_then n (Ok (words_read x.0)) (body_of (n + 1) left (lines_of x.1.now))) (sym f.3))
+
+  pub body_wrong : (r : Result Found FaultKind) (fault : ScriptFault) → ReadsLine bytes room r → at_line n r ≡ Err fault → body_of n room (lines_of bytes) ≡ Err fault
+  body_wrong (Err kind) fault h is =
+      ap (body_of n room) h.2 ∙ (ap (λ said. line_then n said (body_of (n + 1) (room - length h.0) (lines_of h.1))) h.3 ∙ ap Err (err_same is))
+  body_wrong (Ok x) fault h is = cc
+
+  pub script_first : (r : Result Found FaultKind) (x : Found) → ReadsLine bytes room r → at_line n r ≡ Ok x
+      → script_in n room (lines_of bytes) ≡ header_then n (Ok (words_read x.0)) (script_in (n + 1) x.2 (lines_of x.1.now)) (body_of (n + 1) x.2 (lines_of x.1.now))
+  script_first r x h is =
+      let f = found_read r x h is in
+      ap (script_in n room) f.1
+      ∙ (ap (λ said. header_then n said (script_in (n + 1) (room - length f.0) (lines_of x.1.now)) (body_of (n + 1) (room - length f.0) (lines_of x.1.now))) f.2
+      ∙ ap (λ left. header_then n (Ok (words_read x.0)) (script_in (n + 1) left (lines_of x.1.now)) (body_of (n + 1) left (lines_of x.1.now))) (sym f.3))
+
+  pub script_wrong : (r : Result Found FaultKind) (fault : ScriptFault) → ReadsLine bytes room r → at_line n r ≡ Err fault → script_in n room (lines_of bytes) ≡ Err fault
+  script_wrong (Err kind) fault h is =
+      ap (script_in n room) h.2
+      ∙ (ap (λ said. header_then n said (script_in (n + 1) (room - length h.0) (lines_of h.1)) (body_of (n + 1) (room - length h.0) (lines_of h.1))) h.3 ∙ ap Err (err_same is))
+  script_wrong (Ok x) fault h is = cc
 
 -- lines that were read, and those that are still to be read
-abbrev pub after_lines : List Line → Option (List Line) → Option (List Line)
-after_lines front None = None
-after_lines front (Some lines) = Some (front ++ lines)
+abbrev pub after_lines : List Line → Result (List Line) ScriptFault → Result (List Line) ScriptFault
+after_lines front (Err fault) = Err fault
+after_lines front (Ok lines) = Ok (front ++ lines)
 
-pub end_is : (word : List ℕ) (args : Option (Bor (List ℕ))) (alone : Bool) → bytes_eq word (codes "end") ≡ true → is_some args ≡ not alone → alone ≡ is_end word (words_after (option_copied args))
-end_is word None true is none = sym is
-end_is word None false is none = cc
-end_is word (Some more) true is none = cc
-end_is word (Some more) false is none = let w = words_some more.now in rw w.2 refl
+-- the line `end`
+pub line_then-end : (n : ℕ) (word : List ℕ) (args : List (List ℕ)) (later : Result (List Line) ScriptFault) → bytes_eq word (codes "end") ≡ true
+    → line_then n (Ok (word ∷ args)) later ≡ at_line n (end_of args)
+line_then-end n word args later is = rw is refl
 
--- as `check`
-pub check_is : (word : List ℕ) (args : Option (Bor (List ℕ))) (alone : Bool) → bytes_eq word (codes "check") ≡ true → is_some args ≡ not alone → alone ≡ is_check word (words_after (option_copied args))
-check_is word None true is none = sym is
-check_is word None false is none = cc
-check_is word (Some more) true is none = cc
-check_is word (Some more) false is none = let w = words_some more.now in rw w.2 refl
+-- another line
+pub line_then-other : (n : ℕ) (word : List ℕ) (args : List (List ℕ)) (later : Result (List Line) ScriptFault) → bytes_eq word (codes "end") ≡ false
+    → line_then n (Ok (word ∷ args)) later ≡ onto_lines (at_line n (line_of word args)) later
+line_then-other n word args later is = rw is refl
 
 -- one line more
-pub after_lines-onto_lines : (front : List Line) (first : Line) (later : Option (List Line)) → after_lines front (onto_lines (Some first) later) ≡ after_lines (front ++ first ∷ []) later
-after_lines-onto_lines front first None = refl
-after_lines-onto_lines front first (Some lines) = ap Some (sym (append_assoc front (first ∷ []) lines))
+pub after_lines-onto_lines : (front : List Line) (line : Result Line ScriptFault) (first : Line) (later : Result (List Line) ScriptFault) → line ≡ Ok first
+    → after_lines front (onto_lines line later) ≡ after_lines (front ++ first ∷ []) later
+after_lines-onto_lines front (Err fault) first later is = cc
+after_lines-onto_lines front (Ok line) first (Err fault) is = refl
+after_lines-onto_lines front (Ok line) first (Ok lines) is = let same : line ≡ first = cc in rw same (ap Ok (sym (append_assoc front (first ∷ []) lines)))
 
-pub read_more : (whole : Option (List Line)) (front : List Line) (bytes : List ℕ) (room : ℕ) (word : Bor (List ℕ)) (args : Option (Bor (List ℕ))) (after : Bor (List ℕ)) (left : ℕ) (first : Line)
-    → whole ≡ after_lines front (body_of room (lines_of bytes)) → ReadsLine bytes room (Some (Some (word, args), after, left))
-    → false ≡ is_end word.now (words_after (option_copied args)) → Some first ≡ line_of word.now (words_after (option_copied args))
-    → whole ≡ after_lines (front ++ first ∷ []) (body_of left (lines_of after.now))
-read_more whole front bytes room word args after left first is r more there =
-    is ∙ (ap (after_lines front)
-    (ap (body_of room) r.1
-    ∙ (ap (λ said. line_then said (body_of (room - length r.0) (lines_of after.now))) r.2
-    ∙ (ap (λ e. cond e (Some []) (onto_lines (line_of word.now (words_after (option_copied args))) (body_of (room - length r.0) (lines_of after.now)))) (sym more)
-    ∙ (ap (λ l. onto_lines l (body_of (room - length r.0) (lines_of after.now))) (sym there) ∙ ap (λ n. onto_lines (Some first) (body_of n (lines_of after.now))) (sym r.3)))))
-    ∙ after_lines-onto_lines front first (body_of left (lines_of after.now)))
+pub onto_lines-wrong : (line : Result Line ScriptFault) (fault : ScriptFault) (later : Result (List Line) ScriptFault) → line ≡ Err fault → onto_lines line later ≡ Err fault
+onto_lines-wrong (Err f) fault later is = ap Err (err_same is)
+onto_lines-wrong (Ok line) fault later is = cc
+
+-- words stand after `end`
+pub end_more : (args : Option (Bor (List ℕ))) → true ≡ is_some args → end_of (words_after (option_copied args)) ≡ Err kinds.Count
+end_more None some = cc
+end_more (Some more) some = let w = words_some more.now in rw w.2 refl
+
+-- words stand after `check`
+pub check_more : (args : Option (Bor (List ℕ))) → true ≡ is_some args → check_line (words_after (option_copied args)) ≡ Err kinds.Count
+check_more None some = cc
+check_more (Some more) some = let w = words_some more.now in rw w.2 refl
+
+-- Lines were read, and then line n.
+module _ (whole : Result (List Line) ScriptFault) (front : List Line) (bytes : List ℕ) (n room : ℕ) (r : Result Found FaultKind) (so_far : whole ≡ after_lines front (body_of n room (lines_of bytes)))
+    (h : ReadsLine bytes room r) where
+  pub read_skipped : (after : Bor (List ℕ)) (left : ℕ) → at_line n r ≡ Ok (None, after, left) → whole ≡ after_lines front (body_of (n + 1) left (lines_of after.now))
+  read_skipped after left is = so_far ∙ ap (after_lines front) (body_first bytes n room r (None, after, left) h is)
+
+  module _ (word after : Bor (List ℕ)) (args : Option (Bor (List ℕ))) (left : ℕ) (is : at_line n r ≡ Ok (Some (word, args), after, left)) (other : false ≡ bytes_eq word.now (codes "end")) where
+    at_words : whole ≡ after_lines front (onto_lines (at_line n (line_of word.now (words_after (option_copied args)))) (body_of (n + 1) left (lines_of after.now)))
+    at_words =
+        so_far
+        ∙ ap (after_lines front) (body_first bytes n room r (Some (word, args), after, left) h is
+        ∙ line_then-other n word.now (words_after (option_copied args)) (body_of (n + 1) left (lines_of after.now)) (sym other))
+
+    pub read_more : (first : Line) → at_line n (line_of word.now (words_after (option_copied args))) ≡ Ok first
+        → whole ≡ after_lines (front ++ first ∷ []) (body_of (n + 1) left (lines_of after.now))
+    read_more first there =
+        at_words ∙ after_lines-onto_lines front (at_line n (line_of word.now (words_after (option_copied args)))) first (body_of (n + 1) left (lines_of after.now)) there
+
+    pub read_wrong : (fault : ScriptFault) → at_line n (line_of word.now (words_after (option_copied args))) ≡ Err fault → whole ≡ Err fault
+    read_wrong fault there =
+        at_words
+        ∙ ap (after_lines front) (onto_lines-wrong (at_line n (line_of word.now (words_after (option_copied args)))) fault (body_of (n + 1) left (lines_of after.now)) there)

@@ -1,6 +1,7 @@
 pub mod Outside
 pub mod Memory
 pub mod Steps
+pub mod Judging
 pub mod Lines
 pub mod Numbers
 pub mod Script

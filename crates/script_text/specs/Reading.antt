@@ -3,10 +3,12 @@ use Rattle.std.specs.Prelude.{◌≡◌, ℕ, ◌+◌, ◌-◌, ◌<◌, List, [
 use Rattle.std.specs.Borrow.{Bor}
 use Rattle.std.specs.Option.{option_copied}
 use Rattle.script_text.specs.declared.script.Start.{Start}
+use Rattle.script_text.specs.declared.faults.FaultKind.{FaultKind}
+use Rattle.script_text.specs.declared.faults.ScriptFault.{ScriptFault}
 use Rattle.script_text.specs.declared.faults.ScriptEnd.{ScriptEnd}
 use Rattle.script_text.specs.declared.faults.ScriptEnd.TheVariants.{Fault, Memory}
 use Rattle.script_text.specs.Lines.{lines_of, text_of, words_after}
-use Rattle.script_text.specs.Script.{said_by, with_lines, body_of, script_of, outside}
+use Rattle.script_text.specs.Script.{said_by, with_lines, body_of, judged}
 
 -- the bytes are a line of this text, and then the rest
 pub record BeginsWithLine (bytes text rest : List ℕ) : Type 0 where
@@ -22,18 +24,18 @@ words_read None = []
 words_read (Some said) = said.0.now ∷ words_after (option_copied said.1)
 
 -- What a reader found of the first line of the bytes: what it says, and what is left after it.
-abbrev pub ReadsLine : List ℕ → ℕ → Option (Option (Bor (List ℕ) × Option (Bor (List ℕ))) × Bor (List ℕ) × ℕ) → Type 0
-ReadsLine bytes room None = (line rest : List ℕ) × (lines_of bytes ≡ line ∷ lines_of rest) × (said_by room line ≡ None)
-ReadsLine bytes room (Some x) = (line : List ℕ) × (lines_of bytes ≡ line ∷ lines_of x.1.now) × (said_by room line ≡ Some (words_read x.0))
-    × (x.2 ≡ room - length line) × (length x.1.now < length bytes)
+abbrev pub ReadsLine : List ℕ → ℕ → Result (Option (Bor (List ℕ) × Option (Bor (List ℕ))) × Bor (List ℕ) × ℕ) FaultKind → Type 0
+ReadsLine bytes room (Err kind) = (line rest : List ℕ) × (lines_of bytes ≡ line ∷ lines_of rest) × (said_by room line ≡ Err kind)
+ReadsLine bytes room (Ok x) = (line : List ℕ) × (lines_of bytes ≡ line ∷ lines_of x.1.now) × (said_by room line ≡ Ok (words_read x.0))
+    × (x.2 ≡ room - length line) × (length x.1.now < length bytes) × (x.2 < room)
 
 -- What a reader found of the header: the array, and what is left after its line.
-abbrev pub ReadsStart : List ℕ → Option (Start × Bor (List ℕ) × ℕ) → Type 0
-ReadsStart bytes None = script_of bytes ≡ None
-ReadsStart bytes (Some x) = script_of bytes ≡ with_lines (Some x.0) (body_of x.2 (lines_of x.1.now))
+abbrev pub ReadsStart : List ℕ → Result (Start × Bor (List ℕ) × ℕ × ℕ) ScriptFault → Type 0
+ReadsStart bytes (Err fault) = judged bytes ≡ Err fault
+ReadsStart bytes (Ok x) = judged bytes ≡ with_lines (Ok x.0) (body_of x.2 x.3 (lines_of x.1.now))
 
--- A reader answers what is there, seen by view, and else the fault, but for want of memory.
-abbrev pub Gives : {X Y : Type 0} → (X → Y) → Result X ScriptEnd → Option Y → Type 0
-Gives view (Ok x) there = there ≡ Some (view x)
-Gives view (Err (Fault fault)) there = (there ≡ None) × (fault ≡ outside)
+-- A reader answers what is there, seen by view, or the fault, but for want of memory.
+abbrev pub Gives : {X Y : Type 0} → (X → Y) → Result X ScriptEnd → Result Y ScriptFault → Type 0
+Gives view (Ok x) there = there ≡ Ok (view x)
+Gives view (Err (Fault fault)) there = there ≡ Err fault
 Gives view (Err Memory) there = Unit {0}

@@ -1,7 +1,10 @@
--- The grammar of scripts. `None` is outside it.
-use Rattle.std.specs.Prelude.{◌≡◌, ℕ, ◌-◌, ◌==◌, nat_le, Bool, true, false, ◌&&◌, is_ok, if◌then◌else◌, List, [], ◌∷◌, length, codes, Option, Some, None, Result, Ok, Err}
+-- The grammar of scripts. `Err` is outside it, and tells what is wrong with a line: its first kind, in
+-- the order long, utf8, no-array, word, count, number, value, range, no-end.
+use Rattle.std.specs.Prelude.{◌≡◌, ℕ, ◌+◌, ◌-◌, ◌==◌, nat_le, nat_lt, Bool, true, false, ◌&&◌, is_ok, if◌then◌else◌, List, [], ◌∷◌, length, codes, Option, Some, None, Result, Ok, Err, ok_or}
+use Rattle.std.specs.Result.{result_ok}
 use Rattle.std.specs.Str.{is_utf8, bytes_eq}
 use Rattle.mdc_types.specs.Geometry.{geometry_of}
+use Rattle.mdc_types.specs.declared.numbers.Sector.{Sector}
 use Rattle.mdc_types.specs.declared.events.Event.{Event}
 use Rattle.mdc_types.specs.declared.events.Event.TheVariants.{AskWrite, Out, EndWrite, AskRead, In}
 use Rattle.script_text.specs.declared.script.Start.{Start}
@@ -10,8 +13,10 @@ use Rattle.script_text.specs.declared.script.Line.TheVariants as line_kinds
 use Rattle.script_text.specs.declared.faults.ScriptEnd.{ScriptEnd}
 use Rattle.script_text.specs.declared.faults.ScriptEnd.TheVariants.{Fault, Memory}
 use Rattle.script_text.specs.declared.faults.ScriptFault.{ScriptFault}
+use Rattle.script_text.specs.declared.faults.FaultKind.{FaultKind}
 use Rattle.script_text.specs.declared.faults.FaultKind.TheVariants as kinds
-use Rattle.script_text.specs.Steps.{◌>>=◌, guarded}
+use Rattle.script_text.specs.Steps.{guarded}
+use Rattle.script_text.specs.Judging.{◌>>=◌, at_line}
 use Rattle.script_text.specs.Lines.{lines_of, text_of, words_of, script_limit, two, three, four}
 use Rattle.script_text.specs.Numbers.{number_of, byte_of, value_of}
 
@@ -19,71 +24,82 @@ pub record ScriptValue : Type 0 where
   pub start : Start
   pub lines : List Line
 
+-- Words that are numbers and values.
+
+abbrev pub number_word : List ℕ → Result ℕ FaultKind
+number_word word = ok_or (number_of word) kinds.Number
+
+abbrev pub byte_word : List ℕ → Result ℕ FaultKind
+byte_word word = ok_or (byte_of word) kinds.Number
+
+abbrev pub value_word : List ℕ → Result Sector FaultKind
+value_word word = ok_or (value_of word) kinds.Value
+
 -- The lines of events, one definition for each, over the words that follow the first.
 
 -- `w N S V`
-abbrev pub ask_write : List (List ℕ) → Option Event
+abbrev pub ask_write : List (List ℕ) → Result Event FaultKind
 ask_write args = do
-  words ← three args
-  node ← byte_of words.0
-  sector ← number_of words.1
-  value ← value_of words.2
-  Some (AskWrite node sector value)
+  words ← ok_or (three args) kinds.Count
+  node ← byte_word words.0
+  sector ← number_word words.1
+  value ← value_word words.2
+  Ok (AskWrite node sector value)
 
 -- `out N K L`
-abbrev pub out_write : List (List ℕ) → Option Event
+abbrev pub out_write : List (List ℕ) → Result Event FaultKind
 out_write args = do
-  words ← three args
-  node ← byte_of words.0
-  write ← number_of words.1
-  leg ← byte_of words.2
-  Some (Out node write leg)
+  words ← ok_or (three args) kinds.Count
+  node ← byte_word words.0
+  write ← number_word words.1
+  leg ← byte_word words.2
+  Ok (Out node write leg)
 
 -- `ok N K`
-abbrev pub end_write : List (List ℕ) → Option Event
+abbrev pub end_write : List (List ℕ) → Result Event FaultKind
 end_write args = do
-  words ← two args
-  node ← byte_of words.0
-  write ← number_of words.1
-  Some (EndWrite node write)
+  words ← ok_or (two args) kinds.Count
+  node ← byte_word words.0
+  write ← number_word words.1
+  Ok (EndWrite node write)
 
 -- `r N S`
-abbrev pub ask_read : List (List ℕ) → Option Event
+abbrev pub ask_read : List (List ℕ) → Result Event FaultKind
 ask_read args = do
-  words ← two args
-  node ← byte_of words.0
-  sector ← number_of words.1
-  Some (AskRead node sector)
+  words ← ok_or (two args) kinds.Count
+  node ← byte_word words.0
+  sector ← number_word words.1
+  Ok (AskRead node sector)
 
 -- `in N K`
-abbrev pub in_read : List (List ℕ) → Option Event
+abbrev pub in_read : List (List ℕ) → Result Event FaultKind
 in_read args = do
-  words ← two args
-  node ← byte_of words.0
-  read ← number_of words.1
-  Some (In node read)
+  words ← ok_or (two args) kinds.Count
+  node ← byte_word words.0
+  read ← number_word words.1
+  Ok (In node read)
 
-abbrev pub event_of : List ℕ → List (List ℕ) → Option Event
+abbrev pub event_of : List ℕ → List (List ℕ) → Result Event FaultKind
 event_of word args =
     if bytes_eq word (codes "w") then ask_write args
     else if bytes_eq word (codes "out") then out_write args
     else if bytes_eq word (codes "ok") then end_write args
     else if bytes_eq word (codes "r") then ask_read args
     else if bytes_eq word (codes "in") then in_read args
-    else None
+    else Err kinds.Word
 
-abbrev pub event_line : List ℕ → List (List ℕ) → Option Line
+abbrev pub event_line : List ℕ → List (List ℕ) → Result Line FaultKind
 event_line word args = do
   event ← event_of word args
-  Some (line_kinds.Event event)
+  Ok (line_kinds.Event event)
 
--- the query, which is one word
-abbrev pub is_check : List ℕ → List (List ℕ) → Bool
-is_check word [] = bytes_eq word (codes "check")
-is_check word (arg ∷ args) = false
+-- the query `check`
+abbrev pub check_line : List (List ℕ) → Result Line FaultKind
+check_line [] = Ok line_kinds.Check
+check_line (arg ∷ args) = Err kinds.Count
 
-abbrev pub line_of : List ℕ → List (List ℕ) → Option Line
-line_of word args = if is_check word args then Some line_kinds.Check else event_line word args
+abbrev pub line_of : List ℕ → List (List ℕ) → Result Line FaultKind
+line_of word args = if bytes_eq word (codes "check") then check_line args else event_line word args
 
 -- whether a line's event is one of those above
 abbrev pub is_line_event : Event → Bool
@@ -94,6 +110,7 @@ is_line_event (AskRead n s) = true
 is_line_event (In n k) = true
 is_line_event e = false
 
+-- a query has no event
 abbrev pub is_event_line : Line → Bool
 is_event_line (line_kinds.Event event) = is_line_event event
 is_event_line line_kinds.Check = true
@@ -107,82 +124,97 @@ is_start s = nat_le 1 s.nodes && nat_le s.nodes 8 && is_ok (geometry_of s.legs s
 abbrev pub warm_with : ℕ → ℕ → ℕ → ℕ → Start
 warm_with legs sectors chunk nodes = record { legs = legs; sectors = sectors; chunk = chunk; nodes = nodes; warm = true; spares = 0 }
 
+-- the array of these numbers, if there is such an array
+abbrev pub start_with : ℕ → ℕ → ℕ → ℕ → Option Start
+start_with legs sectors chunk nodes = guarded (is_start (warm_with legs sectors chunk nodes)) (warm_with legs sectors chunk nodes)
+
 -- `warm LEGS SECTORS CHUNK NODES`
-abbrev pub warm_start : List (List ℕ) → Option Start
+abbrev pub warm_start : List (List ℕ) → Result Start FaultKind
 warm_start args = do
-  words ← four args
-  legs ← number_of words.0
-  sectors ← number_of words.1
-  chunk ← number_of words.2
-  nodes ← number_of words.3
-  guarded (is_start (warm_with legs sectors chunk nodes)) (warm_with legs sectors chunk nodes)
+  words ← ok_or (four args) kinds.Count
+  legs ← number_word words.0
+  sectors ← number_word words.1
+  chunk ← number_word words.2
+  nodes ← number_word words.3
+  ok_or (start_with legs sectors chunk nodes) kinds.Range
 
-abbrev pub start_of : List ℕ → List (List ℕ) → Option Start
-start_of word args = if bytes_eq word (codes "warm") then warm_start args else None
+abbrev pub start_of : List ℕ → List (List ℕ) → Result Start FaultKind
+start_of word args = if bytes_eq word (codes "warm") then warm_start args else Err kinds.NoArray
 
--- The whole script.
+-- The whole script. Lines are counted from 1, and `room` is how many bytes more the script may have.
 
 -- an empty line, and one that begins with `#`, byte 35, are skipped: they have no words
 abbrev pub words_said : List ℕ → List (List ℕ)
 words_said [] = []
 words_said (b ∷ text) = if b == 35 then [] else words_of (b ∷ text)
 
--- the words of a line that is UTF-8 and that the script has room for
-abbrev pub said_by : ℕ → List ℕ → Option (List (List ℕ))
-said_by room line = guarded (nat_le (length line) room && is_utf8 (text_of line)) (words_said (text_of line))
+-- the words of a line that the script has room for and that is UTF-8
+abbrev pub said_by : ℕ → List ℕ → Result (List (List ℕ)) FaultKind
+said_by room line =
+    if nat_lt room (length line) then Err kinds.Long
+    else if is_utf8 (text_of line) then Ok (words_said (text_of line))
+    else Err kinds.Utf8
 
-abbrev pub is_end : List ℕ → List (List ℕ) → Bool
-is_end word [] = bytes_eq word (codes "end")
-is_end word (arg ∷ args) = false
+-- the line `end` has no other words, and no lines follow it
+abbrev pub end_of : List (List ℕ) → Result (List Line) FaultKind
+end_of [] = Ok []
+end_of (arg ∷ args) = Err kinds.Count
 
-abbrev pub onto_lines : Option Line → Option (List Line) → Option (List Line)
+abbrev pub onto_lines : Result Line ScriptFault → Result (List Line) ScriptFault → Result (List Line) ScriptFault
 onto_lines line lines = do
   first ← line
   others ← lines
-  Some (first ∷ others)
+  Ok (first ∷ others)
 
-abbrev pub with_lines : Option Start → Option (List Line) → Option ScriptValue
+abbrev pub with_lines : Result Start ScriptFault → Result (List Line) ScriptFault → Result ScriptValue ScriptFault
 with_lines start lines = do
   s ← start
   ls ← lines
-  Some (record { start = s; lines = ls })
+  Ok (record { start = s; lines = ls })
 
--- a line, and the lines after it
-abbrev pub line_then : Option (List (List ℕ)) → Option (List Line) → Option (List Line)
-line_then None later = None
-line_then (Some []) later = later
-line_then (Some (word ∷ args)) later = if is_end word args then Some [] else onto_lines (line_of word args) later
+-- line n, and the lines after it
+abbrev pub line_then : ℕ → Result (List (List ℕ)) FaultKind → Result (List Line) ScriptFault → Result (List Line) ScriptFault
+line_then n (Err kind) later = at_line n (Err kind)
+line_then n (Ok []) later = later
+line_then n (Ok (word ∷ args)) later =
+    if bytes_eq word (codes "end") then at_line n (end_of args)
+    else onto_lines (at_line n (line_of word args)) later
 
--- the lines after the header, up to the line `end`, where the script may have so many bytes more
-abbrev pub body_of : ℕ → List (List ℕ) → Option (List Line)
-body_of room [] = None
-body_of room (line ∷ lines) = line_then (said_by room line) (body_of (room - length line) lines)
+-- the lines after the header, from line n on, up to the line `end`
+abbrev pub body_of : ℕ → ℕ → List (List ℕ) → Result (List Line) ScriptFault
+body_of n room [] = at_line n (Err kinds.NoEnd)
+body_of n room (line ∷ lines) = line_then n (said_by room line) (body_of (n + 1) (room - length line) lines)
 
--- a line that is skipped, or the header: what follows is the same, or the lines after the header
-abbrev pub header_then : Option (List (List ℕ)) → Option ScriptValue → Option (List Line) → Option ScriptValue
-header_then None later body = None
-header_then (Some []) later body = later
-header_then (Some (word ∷ args)) later body = with_lines (start_of word args) body
+-- line n is skipped, or is the header: what follows is the same, or the lines after the header
+abbrev pub header_then : ℕ → Result (List (List ℕ)) FaultKind → Result ScriptValue ScriptFault → Result (List Line) ScriptFault → Result ScriptValue ScriptFault
+header_then n (Err kind) later body = at_line n (Err kind)
+header_then n (Ok []) later body = later
+header_then n (Ok (word ∷ args)) later body = with_lines (at_line n (start_of word args)) body
 
-abbrev pub script_in : ℕ → List (List ℕ) → Option ScriptValue
-script_in room [] = None
-script_in room (line ∷ lines) =
-    header_then (said_by room line) (script_in (room - length line) lines) (body_of (room - length line) lines)
+abbrev pub script_in : ℕ → ℕ → List (List ℕ) → Result ScriptValue ScriptFault
+script_in n room [] = at_line n (Err kinds.NoArray)
+script_in n room (line ∷ lines) =
+    header_then n (said_by room line) (script_in (n + 1) (room - length line) lines) (body_of (n + 1) (room - length line) lines)
+
+-- the script, or the first line outside the grammar and what is wrong with it
+abbrev pub judged : List ℕ → Result ScriptValue ScriptFault
+judged bytes = script_in 1 script_limit (lines_of bytes)
 
 abbrev pub script_of : List ℕ → Option ScriptValue
-script_of bytes = script_in script_limit (lines_of bytes)
+script_of bytes = result_ok (judged bytes)
 
 -- the bytes are in the grammar, and the script is this one
 abbrev pub IsScript : List ℕ → ScriptValue → Type 0
 IsScript bytes script = script_of bytes ≡ Some script
 
--- the fault of what is outside the grammar
-abbrev pub outside : ScriptFault
-outside = record { line = 1; kind = kinds.Word }
+-- the fault of what is outside the grammar; a script has none, and gets line 0, which is no line
+abbrev pub fault_in : Result ScriptValue ScriptFault → ScriptFault
+fault_in (Err fault) = fault
+fault_in (Ok script) = record { line = 0; kind = kinds.NoEnd }
 
 -- the first line outside the grammar, and what is wrong with it
 abbrev pub fault_of : List ℕ → ScriptFault
-fault_of bytes = outside
+fault_of bytes = fault_in (judged bytes)
 
 -- what reading the bytes answers
 abbrev pub Reads : Result ScriptValue ScriptEnd → List ℕ → Type 0

@@ -1,4 +1,4 @@
--- Steps of reading. `None` is outside the grammar.
+-- Steps of reading a word. `None` is no number, or no value.
 use Rattle.std.specs.Prelude.{Bool, if◌then◌else◌, Option, Some, None}
 
 infixl 10 ◌>>=◌

@@ -3,13 +3,15 @@
 //! A script is lines of UTF-8, each ended by a line feed, which the last may lack. Words are parted by
 //! one space. An empty line, and one that begins with `#`, are skipped. The first other line is the
 //! header `warm LEGS SECTORS CHUNK NODES`: there are 1 to 8 nodes, and `Geometry::new` takes the
-//! sizes. Then come the lines of events, `w N S V`, `out N K L`, `ok N K`, `r N S` and `in N K`. The
-//! line `end` ends the script, and what follows isn't judged. Up to the line feed of that line a
+//! sizes. Then come the lines of events, `w N S V`, `out N K L`, `ok N K`, `r N S` and `in N K`, and
+//! the query `check`. The line `end` ends the script, and what follows isn't judged. Up to the line feed of that line a
 //! script holds at most 16,777,216 bytes.
 //!
 //! Numbers are decimal, without leading zeros, and have 32 bits; those of nodes and legs have 8. A
 //! value is `-`, which is empty, or 2 to 1,024 lower-case hexadecimal digits, an even number of them.
 //! The rest of the sector is zero.
+//!
+//! Of bytes that are no script the first line outside the grammar is told, and what is wrong with it.
 #![tactic(auto)]
 
 mod command;

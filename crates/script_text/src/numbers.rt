@@ -1,14 +1,16 @@
 ghost use Rattle.std.specs.Prelude.{◌≡◌, [], ◌*◌, ◌/◌, ◌%◌, ◌<◌, ◌≤◌, length, take, drop, Some, None, IfSome, OnSome, MatchOption};
 ghost use Rattle.std.specs.Option.{option_map};
+ghost use Rattle.script_text.specs.Script.{number_word, byte_word, value_word};
 ghost use Rattle.script_text.specs.Numbers.{number_of, byte_of, hex_digit, hex_bytes, sector_of, value_of};
 
+use crate::FaultKind;
 use mdc_types::Sector;
 
 // Of a value.
 const MAX_DIGITS: usize = 1024;
 
-/// A number of 32 bits, in decimal, without leading zeros.
-pub(crate) fn number(word: &str) -> Option<u32>
+// A number of 32 bits, in decimal, without leading zeros.
+fn number(word: &str) -> Option<u32>
     ensures { result ≡ number_of word.now }
 {
     if word.starts_with('+') {
@@ -20,8 +22,8 @@ pub(crate) fn number(word: &str) -> Option<u32>
     word.parse().ok()
 }
 
-/// The number of a node or a leg.
-pub(crate) fn byte(word: &str) -> Option<u8>
+// The number of a node or a leg.
+fn byte(word: &str) -> Option<u8>
     ensures { result ≡ byte_of word.now }
 {
     u8::try_from(number(word)?).ok()
@@ -70,9 +72,9 @@ fn hex_sector(digits: &[u8]) -> Option<Sector>
     Some(sector)
 }
 
-/// What a sector is to hold: `-`, or lower-case hexadecimal digits, two for each byte from the first
-/// on. The other bytes are zero.
-pub(crate) fn value(word: &str) -> Option<Sector>
+// What a sector is to hold: `-`, or lower-case hexadecimal digits, two for each byte from the first on.
+// The other bytes are zero.
+fn value(word: &str) -> Option<Sector>
     ensures { result ≡ value_of word.now }
 {
     if word == "-" {
@@ -83,4 +85,25 @@ pub(crate) fn value(word: &str) -> Option<Sector>
         return None;
     }
     hex_sector(digits)
+}
+
+/// A word that is a number.
+pub(crate) fn number_word(word: &str) -> Result<u32, FaultKind>
+    ensures { result ≡ number_word word.now }
+{
+    number(word).ok_or(FaultKind::Number)
+}
+
+/// A word that is the number of a node or a leg.
+pub(crate) fn byte_word(word: &str) -> Result<u8, FaultKind>
+    ensures { result ≡ byte_word word.now }
+{
+    byte(word).ok_or(FaultKind::Number)
+}
+
+/// A word that is a value.
+pub(crate) fn value_word(word: &str) -> Result<Sector, FaultKind>
+    ensures { result ≡ value_word word.now }
+{
+    value(word).ok_or(FaultKind::Value)
 }

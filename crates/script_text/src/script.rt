@@ -24,8 +24,9 @@ pub struct Start {
 /// A line of a script, after the header and before the line `end`.
 #[derive(Clone, Copy)]
 pub enum Line {
+    /// An event that is to be tried.
     Event(Event),
-    /// The query `check`.
+    /// The query `check`: whether what was done so far is a legal history. It is no event.
     Check,
 }
 

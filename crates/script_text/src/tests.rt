@@ -5,16 +5,14 @@ use std::io;
 use std::io::{ErrorKind, Read, Write};
 use std::test::*;
 
-// Whether the bytes are a script. There is one fault today, and nothing else is an answer.
-fn is_script(alloc: Global, bytes: &[u8]) -> Option<bool> {
-    let fault = ScriptFault {
-        line: 1,
-        kind: FaultKind::Word,
-    };
+// `ok` of a script, else the line and the kind of the fault, as `2 value`.
+fn judged(alloc: Global, bytes: &[u8]) -> Result<String, Fail> {
     match read_script(alloc, bytes) {
-        Ok(_) => Some(true),
-        Err(end) if end == ScriptEnd::Fault(fault) => Some(false),
-        Err(_) => None,
+        Ok(_) => Ok(String::from_str(alloc, "ok")?),
+        Err(ScriptEnd::Fault(fault)) => {
+            Ok(format!(in alloc; "{} {}", fault.line, fault.kind.word())?)
+        }
+        Err(ScriptEnd::Memory) => Err("memory".into()),
     }
 }
 
@@ -50,89 +48,96 @@ fn one_script(rt: HostRuntime) -> Result<(), Fail> {
 #[test]
 fn scripts(rt: HostRuntime) -> Result<(), Fail> {
     for (text, wanted) in [
-        ("warm 2 16 4 1\nend\n", true),
-        ("warm 2 16 4 1\nend", true),
-        ("\n# two legs\nwarm 2 16 4 1\n\n#\nend\nW 05\n", true),
-        ("warm 8 131072 8 8\nend\n", true),
-        ("", false),
-        ("end\n", false),
-        ("warm 2 16 4 1\n", false),
-        ("warm 2 16 4 1\nend \n", false),
-        ("warm 2 16 4 1\r\nend\n", false),
-        (" warm 2 16 4 1\nend\n", false),
-        ("array 2 16 4 1\nend\n", false),
-        ("warm 2 16 4\nend\n", false),
-        ("warm 2 16 4 1 1\nend\n", false),
-        ("warm 2 16 4 0\nend\n", false),
-        ("warm 2 16 4 9\nend\n", false),
-        ("warm 2 16 4 257\nend\n", false),
-        ("warm 1 16 4 1\nend\n", false),
-        ("warm 258 16 4 1\nend\n", false),
-        ("warm 2 16 3 1\nend\n", false),
-        ("warm 2 131072 4 1\nend\n", false),
-        ("warm 2 016 4 1\nend\n", false),
+        ("warm 2 16 4 1\nend\n", "ok"),
+        ("warm 2 16 4 1\nend", "ok"),
+        ("\n# two legs\nwarm 2 16 4 1\n\n#\nend\nW 05\n", "ok"),
+        ("warm 8 131072 8 8\nend\n", "ok"),
+        ("", "1 no-array"),
+        ("\n", "2 no-array"),
+        ("#\n# end", "3 no-array"),
+        ("end\n", "1 no-array"),
+        ("\nw 0 5 01\n", "2 no-array"),
+        (" warm 2 16 4 1\nend\n", "1 no-array"),
+        ("array 2 16 4 1\nend\n", "1 no-array"),
+        ("warm 2 16 4 1\n", "2 no-end"),
+        ("warm 2 16 4 1", "2 no-end"),
+        ("warm 2 16 4 1\nw 0 5 01\n\n#", "5 no-end"),
+        ("warm 2 16 4 1\nend \n", "2 count"),
+        ("warm 2 16 4 1\nend\r\n", "2 word"),
+        ("warm 2 16 4 1\r\nend\n", "1 number"),
+        ("warm\nend\n", "1 count"),
+        ("warm 2 16 4\nend\n", "1 count"),
+        ("warm 2 16 x 1 1\nend\n", "1 count"),
+        ("warm 1 016 4 1\nend\n", "1 number"),
+        ("warm 2 16 4 4294967296\nend\n", "1 number"),
+        ("warm 2 16 4 4294967295\nend\n", "1 range"),
+        ("warm 2 16 4 0\nend\n", "1 range"),
+        ("warm 2 16 4 9\nend\n", "1 range"),
+        ("warm 2 16 4 257\nend\n", "1 range"),
+        ("warm 1 16 4 1\nend\n", "1 range"),
+        ("warm 258 16 4 1\nend\n", "1 range"),
+        ("warm 2 16 3 1\nend\n", "1 range"),
+        ("warm 2 131072 4 1\nend\n", "1 range"),
+        ("warm 2 16 4 1\nwarm 2 16 4 1\nend\n", "2 word"),
+        ("warm 2 16 4 1\nr 0 x\nw 0 5 0\nend\n", "2 number"),
     ] {
-        assert_eq!(rt;
-            is_script(rt.alloc(), text.as_bytes()),
-            Some(wanted),
-            "at {text:?}"
-        );
+        let told = judged(rt.alloc(), text.as_bytes())?;
+        assert_eq!(rt; told.as_str(), wanted, "at {text:?}");
     }
     for (line, wanted) in [
-        ("w 255 4294967295 -", true),
-        ("out 0 0 255", true),
-        ("ok 0 10", true),
-        ("r 0 5", true),
-        ("in 0 0", true),
-        ("w 0 5 0f", true),
-        ("w 256 5 -", false),
-        ("w 0 4294967296 -", false),
-        ("w 0 05 -", false),
-        ("w 0 00 -", false),
-        ("w 0 +5 -", false),
-        ("w 0 5", false),
-        ("w 0 5 ", false),
-        ("w 0  5 -", false),
-        ("w 0 5 - ", false),
-        ("w 0 5 - -", false),
-        ("w 0 5 6", false),
-        ("w 0 5 686", false),
-        ("w 0 5 0F", false),
-        ("w 0 5 68g9", false),
-        ("out 0 0 256", false),
-        ("ok 0", false),
-        ("r 0 5 1", false),
-        ("in 0 a", false),
-        ("W 0 5 -", false),
-        ("cut 0 0", false),
-        ("end 0", false),
-        ("check", true),
-        ("check 0", false),
-        ("check ", false),
+        ("w 255 4294967295 -", "ok"),
+        ("out 0 0 255", "ok"),
+        ("ok 0 10", "ok"),
+        ("r 0 5", "ok"),
+        ("in 0 0", "ok"),
+        ("w 0 5 0f", "ok"),
+        ("check", "ok"),
+        ("w 256 5 -", "2 number"),
+        ("w 0 4294967296 -", "2 number"),
+        ("w 0 05 01", "2 number"),
+        ("w 0 00 -", "2 number"),
+        ("w 0 +5 -", "2 number"),
+        ("w 0 5", "2 count"),
+        ("w 0 5 ", "2 value"),
+        ("w  5 -", "2 number"),
+        ("w 0  5 -", "2 count"),
+        ("w 0 5 - ", "2 count"),
+        ("w 0 x 68g9 -", "2 count"),
+        ("w 0 x 68g9", "2 number"),
+        ("w 0 5 6", "2 value"),
+        ("w 0 5 686", "2 value"),
+        ("w 0 5 0F", "2 value"),
+        ("w 0 5 68g9", "2 value"),
+        ("out 0 0 256", "2 number"),
+        ("ok 0", "2 count"),
+        ("r 0 5 1", "2 count"),
+        ("in 0 a", "2 number"),
+        ("W 0 5 -", "2 word"),
+        (" w 0 5 -", "2 word"),
+        ("cut 0 0", "2 word"),
+        ("end 0", "2 count"),
+        ("check 0", "2 count"),
+        ("check ", "2 count"),
     ] {
         let text = format!(in rt.alloc(); "warm 2 16 4 1\n{line}\nend\n")?;
-        assert_eq!(rt;
-            is_script(rt.alloc(), text.as_bytes()),
-            Some(wanted),
-            "at {line:?}"
-        );
+        let told = judged(rt.alloc(), text.as_bytes())?;
+        assert_eq!(rt; told.as_str(), wanted, "at {line:?}");
     }
-    for (digits, wanted) in [(2, true), (1024, true), (1026, false)] {
-        let mut text = String::from_str(rt.alloc(), "warm 2 16 4 1\nw 0 5 ")?;
+    for (digits, wanted) in [(2, "ok"), (1024, "ok"), (1026, "3 value")] {
+        let mut text = String::from_str(rt.alloc(), "# a\nwarm 2 16 4 1\nw 0 5 ")?;
         for _ in 0..digits {
             text.push('a')?;
         }
         text.push_str("\nend\n")?;
-        assert_eq!(rt;
-            is_script(rt.alloc(), text.as_bytes()),
-            Some(wanted),
-            "at {digits} digits"
-        );
+        let told = judged(rt.alloc(), text.as_bytes())?;
+        assert_eq!(rt; told.as_str(), wanted, "at {digits} digits");
     }
-    let no_text = b"#\xff\nwarm 2 16 4 1\nend\n";
-    assert_eq!(rt; is_script(rt.alloc(), no_text), Some(false));
-    let no_text_after = b"warm 2 16 4 1\nend\n\xff";
-    assert_eq!(rt; is_script(rt.alloc(), no_text_after), Some(true));
+    let no_text = judged(rt.alloc(), b"\xff\n")?;
+    assert_eq!(rt; no_text.as_str(), "1 utf8");
+    let no_text = judged(rt.alloc(), b"#\n#\xff\nwarm 2 16 4 1\nend\n")?;
+    assert_eq!(rt; no_text.as_str(), "2 utf8");
+    let no_text_after = judged(rt.alloc(), b"warm 2 16 4 1\nend\n\xff")?;
+    assert_eq!(rt; no_text_after.as_str(), "ok");
     Ok(())
 }
 
@@ -149,11 +154,24 @@ fn script_with_comment(alloc: Global, len: usize) -> Result<Vec<u8>, Fail> {
 #[test]
 fn long_scripts(rt: HostRuntime) -> Result<(), Fail> {
     let mut bytes = script_with_comment(rt.alloc(), 16_777_216 - 20)?;
-    assert_eq!(rt; is_script(rt.alloc(), &bytes), Some(true));
-    bytes.push(b'r')?;
-    assert_eq!(rt; is_script(rt.alloc(), &bytes), Some(true));
-    let bytes = script_with_comment(rt.alloc(), 16_777_217 - 20)?;
-    assert_eq!(rt; is_script(rt.alloc(), &bytes), Some(false));
+    let told = judged(rt.alloc(), &bytes)?;
+    assert_eq!(rt; told.as_str(), "ok");
+    bytes.push(b'\xff')?;
+    let told = judged(rt.alloc(), &bytes)?;
+    assert_eq!(rt; told.as_str(), "ok");
+
+    // The line feed of the line `end` is past the limit, or is missing and the line fits.
+    let mut bytes = script_with_comment(rt.alloc(), 16_777_217 - 20)?;
+    let told = judged(rt.alloc(), &bytes)?;
+    assert_eq!(rt; told.as_str(), "3 long");
+    bytes.truncate(16_777_216);
+    let told = judged(rt.alloc(), &bytes)?;
+    assert_eq!(rt; told.as_str(), "ok");
+
+    // The comment is too long.
+    let bytes = script_with_comment(rt.alloc(), 16_777_217)?;
+    let told = judged(rt.alloc(), &bytes)?;
+    assert_eq!(rt; told.as_str(), "2 long");
     Ok(())
 }
 

@@ -1,5 +1,11 @@
+use Rattle.std.proofs.Common.{ap}
+use Rattle.std.specs.Result.{result_ok}
+use Rattle.script_text.specs.Script.{fault_in}
 use Rattle.script_text.proofs.PartLaws.{part_judged}
 use Rattle.script_text.proofs.reading.part_is_judged_as_all.Goals as goal
 
-pub returns : goal.returns
-returns c = part_judged
+pub returns-clause-script : goal.returns-clause-script
+returns-clause-script c bytes = ap result_ok (part_judged bytes)
+
+pub returns-clause-fault : goal.returns-clause-fault
+returns-clause-fault c bytes = ap fault_in (part_judged bytes)

@@ -1,11 +1,14 @@
-use Rattle.std.proofs.Common.{◌≡◌, length}
-use Rattle.script_text.specs.Lines.{lines_of}
+use Rattle.std.proofs.Common.{◌≡◌, ◌+◌, ◌≤◌, length}
+use Rattle.script_text.specs.Lines.{lines_of, script_limit}
 use Rattle.script_text.specs.Script.{body_of}
 use Rattle.script_text.proofs.ReadingLaws.{after_lines}
 use Rattle.script_text.proofs.reading.read_lines.Given as goal
 
 abbrev pub invariant-loop-rest : goal.invariant-loop-rest
-invariant-loop-rest l = body_of l.fn.room (lines_of l.bytes) ≡ after_lines l.lines.items (body_of l.room (lines_of l.rest))
+invariant-loop-rest l = record {
+  read : body_of l.fn.line l.fn.room (lines_of l.bytes) ≡ after_lines l.lines.items (body_of l.line l.room (lines_of l.rest));
+  few : l.line + l.room ≤ script_limit + 1;
+}
 
 abbrev pub decreases-loop-rest : goal.decreases-loop-rest
 decreases-loop-rest l = length l.rest
