@@ -165,16 +165,56 @@ fn no_command(rt: HostRuntime) -> Result<(), AllocError> {
 #[test]
 fn no_script(rt: HostRuntime) -> Result<(), AllocError> {
     for (script, line, kind, text) in [
-        (b"".as_slice(), 1, FaultKind::NoArray, b"script 1 no-array\n".as_slice()),
+        (
+            b"".as_slice(),
+            1,
+            FaultKind::NoArray,
+            b"script 1 no-array\n".as_slice(),
+        ),
         (b"frob\n", 1, FaultKind::NoArray, b"script 1 no-array\n"),
         (b"\xff\n", 1, FaultKind::Utf8, b"script 1 utf8\n"),
-        (b"warm 2 131072 4 1\nend\n", 1, FaultKind::Range, b"script 1 range\n"),
-        (b"warm 2 16 4 9\nend\n", 1, FaultKind::Range, b"script 1 range\n"),
-        (b"warm 2 16 4 1\n", 2, FaultKind::NoEnd, b"script 2 no-end\n"),
-        (b"warm 2 16 4 1\nfrob\nend\n", 2, FaultKind::Word, b"script 2 word\n"),
-        (b"warm 2 16 4 1\ncheck 0\nend\n", 2, FaultKind::Count, b"script 2 count\n"),
-        (b"warm 2 16 4 1\nw 0 05 01\nend\n", 2, FaultKind::Number, b"script 2 number\n"),
-        (b"warm 2 16 4 1\nw 0 5 68g9\nend\n", 2, FaultKind::Value, b"script 2 value\n"),
+        (
+            b"warm 2 131072 4 1\nend\n",
+            1,
+            FaultKind::Range,
+            b"script 1 range\n",
+        ),
+        (
+            b"warm 2 16 4 9\nend\n",
+            1,
+            FaultKind::Range,
+            b"script 1 range\n",
+        ),
+        (
+            b"warm 2 16 4 1\n",
+            2,
+            FaultKind::NoEnd,
+            b"script 2 no-end\n",
+        ),
+        (
+            b"warm 2 16 4 1\nfrob\nend\n",
+            2,
+            FaultKind::Word,
+            b"script 2 word\n",
+        ),
+        (
+            b"warm 2 16 4 1\ncheck 0\nend\n",
+            2,
+            FaultKind::Count,
+            b"script 2 count\n",
+        ),
+        (
+            b"warm 2 16 4 1\nw 0 05 01\nend\n",
+            2,
+            FaultKind::Number,
+            b"script 2 number\n",
+        ),
+        (
+            b"warm 2 16 4 1\nw 0 5 68g9\nend\n",
+            2,
+            FaultKind::Value,
+            b"script 2 value\n",
+        ),
     ] {
         let played = play_words(rt.alloc(), &["play"], script)?;
         assert_eq!(rt; played.status, Status::Script(ScriptFault { line, kind }));
