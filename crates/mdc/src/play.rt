@@ -5,6 +5,7 @@ ghost use Rattle.mdc_types.specs.Bits.{has_bit};
 ghost use Rattle.mdc_types.specs.Faults.{Rose};
 ghost use Rattle.mdc_types.specs.Geometry.{geometry_of};
 ghost use Rattle.script_text.specs.Script.{is_event_line};
+ghost use Rattle.script_text.specs.Outside.{TookOfPart};
 ghost use Rattle.mdc.specs.Answers.{Answers, Judged, Ran, script_line};
 
 use crate::array::open_world;
@@ -56,14 +57,15 @@ fn run_script<K: Sink>(alloc: Global, script: &Script, sink: &mut K) -> Status
 /// writing one line of text for each line of the script.
 ///
 /// It waits for nobody and returns, whatever the bytes are. `Answers` says for each status when it
-/// comes and what was written.
+/// comes and what was written. Whatever the status, nothing was taken from the source that stands
+/// after the script.
 pub fn play<S: Source, K: Sink>(
     alloc: Global,
     words: &[String],
     source: &mut S,
     sink: &mut K,
 ) -> Status
-    ensures { Answers (record {
+    ensures answers { Answers (record {
       words = map string_bytes words.now;
       left = S.left source.old;
       left_after = S.left source.new;
@@ -74,6 +76,7 @@ pub fn play<S: Source, K: Sink>(
       sink_faults = K.faults sink.old;
       sink_faults_after = K.faults sink.new;
     }) result }
+    ensures taken { TookOfPart (S.left source.old) (S.left source.new) }
 {
     match read_words(words) {
         Ok(Command::Play) => match read_input(alloc, source) {

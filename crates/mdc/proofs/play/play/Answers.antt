@@ -5,8 +5,8 @@ use Rattle.mdc.specs.Answers.IsText.{no_command, no_input}
 use Rattle.mdc.proofs.Answering.{answers_of, is_play}
 use Rattle.mdc.proofs.play.play.Goals as goal
 
-pub returns-in-Ok : goal.returns-in-Ok
-returns-in-Ok g c =
+pub returns-in-Ok-clause-answers : goal.returns-in-Ok-clause-answers
+returns-in-Ok-clause-answers g c =
     answers_of (record {
       words = map string_bytes c.args.words.now;
       left = g.S.Source.left c.args.source.now;
@@ -24,12 +24,12 @@ returns-in-Ok g c =
       alone = c.in-Ok.ensures.alone;
     }) c.play_bytes.result (rw c.as_slice.ensures.value at c.play_bytes.ensures.judged) c.play_bytes.ensures.rose
 
-pub returns-in-Err : goal.returns-in-Err
-returns-in-Err g c =
+pub returns-in-Err-clause-answers : goal.returns-in-Err-clause-answers
+returns-in-Err-clause-answers g c =
     let front = c.in-Err.ensures.err in
     (c.in-Err.ensures.cause.failed, (_, (no_input (is_play _ _ (sym c.read_words.ensures ∙ c.in-Ok-Play.is)) (c.in-Err-Failed.ensures.failed (ap Err c.in-Err-Failed.field-0-is)), (front.0, front.2))))
 
-pub returns-in-Err-write_all : goal.returns-in-Err-write_all
-returns-in-Err-write_all g c =
+pub returns-in-Err-write_all-clause-answers : goal.returns-in-Err-write_all-clause-answers
+returns-in-Err-write_all-clause-answers g c =
     let front = c.in-Err-write_all.ensures.err in
     (c.in-Err-write_all.ensures.cause.failed, (_, (no_command (sym c.read_words.ensures ∙ c.in-Err-Usage.is ∙ ap Err c.in-Err-Usage.field-0-is), (front.0, front.2))))
