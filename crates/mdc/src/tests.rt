@@ -289,6 +289,8 @@ const START: Start = Start {
 fn worlds_and_lines(rt: HostRuntime) -> Result<(), AllocError> {
     let alloc = rt.alloc();
     let mut world = open_world(alloc, &START)?;
+    world.reserve(10)?;
+    assert!(rt; world.spare() >= 10);
     let mut sink = MemSink::new(alloc, 100, Vec::new(alloc))?;
     let lines = [
         Line::Event(Event::AskRead(0, 5)),
