@@ -3,6 +3,7 @@ use Rattle.std.proofs.Common.{◌≡◌, ℕ, ◌<◌, ◌&&◌, Bool, true, fal
 use Rattle.std.specs.Prelude.{nat_lt, is_none}
 use Rattle.std.proofs.lemmas.Bool.Decides.{nat_tests}
 use Rattle.dlm_modes.specs.First.{first_such}
+use Rattle.dlm_modes.specs.Guards.{unless, first_of}
 use Rattle.dlm_modes.proofs.FirstLaws.{first_such_none}
 use Rattle.mdc_types.specs.Geometry.{nodes_of}
 use Rattle.mdc_types.specs.declared.numbers.Sector.{Sector}
@@ -14,7 +15,7 @@ use Rattle.mirror_io.specs.declared.live.LiveWrite.{LiveWrite}
 use Rattle.mirror_io.specs.declared.live.LiveRead.{LiveRead}
 use Rattle.mirror_io.specs.Flight.{write_in, read_in, missing_leg, is_done}
 use Rattle.cluster_model.specs.State.{Core, is_target}
-use Rattle.cluster_model.specs.Table.{unless, first_of, refusal, no_node, not_live, not_up, no_leg, no_sector, no_write, no_read, not_target, unacked, unacked_leg, not_written, unwritten_leg, writer_of, in_flight, any_of_sector, full}
+use Rattle.cluster_model.specs.Table.{refusal, no_node, not_live, not_up, no_leg, no_sector, no_write, no_read, not_target, unacked, unacked_leg, not_written, unwritten_leg, writer_of, in_flight, any_of_sector, full}
 
 -- where no guard refuses, each holds
 first_of_none : (g : Option Refusal) (rest : List (Option Refusal)) → first_of (g ∷ rest) ≡ None → (g ≡ None) × (first_of rest ≡ None)

@@ -1,6 +1,7 @@
 -- What an accepted event does to the core, by its outcome: attribute by attribute.
 use Rattle.std.specs.Prelude.{ℕ, ◌+◌, ◌==◌, Bool, true, false, not, ◌&&◌, if◌then◌else◌, is_none, unwrap_or, List, [], ◌∷◌, ◌++◌, Option, Some, None}
 use Rattle.dlm_modes.specs.First.{first_such}
+use Rattle.dlm_modes.specs.Points.{with_at}
 use Rattle.mdc_types.specs.declared.events.Event.{Event}
 use Rattle.mdc_types.specs.declared.events.Event.TheVariants.{AskWrite, Out, EndWrite, AskRead, In}
 use Rattle.mdc_types.specs.declared.outcomes.Outcome.{Outcome}
@@ -10,10 +11,6 @@ use Rattle.mirror_io.specs.declared.live.LiveWrite.{LiveWrite}
 use Rattle.mirror_io.specs.declared.live.LiveRead.{LiveRead}
 use Rattle.mirror_io.specs.Flight.{write_in, read_in, without_write, without_read, new_write, new_read, start_in, done_in}
 use Rattle.cluster_model.specs.State.{Core, works}
-
--- f with v at n
-abbrev pub with_at : {A : Type 0} → (ℕ → A) → ℕ → A → ℕ → A
-with_at f n v m = if m == n then v else f m
 
 -- outcomes
 

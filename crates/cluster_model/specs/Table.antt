@@ -1,6 +1,7 @@
 -- The table: for each event its guards in order.
 use Rattle.std.specs.Prelude.{ℕ, ◌==◌, nat_lt, length, Bool, true, false, not, ◌&&◌, ◌||◌, List, [], ◌∷◌, Option, Some, None}
 use Rattle.dlm_modes.specs.First.{first_such}
+use Rattle.dlm_modes.specs.Guards.{unless, first_of}
 use Rattle.mdc_types.specs.Geometry.{nodes_of}
 use Rattle.mdc_types.specs.Roles.{state_word}
 use Rattle.mdc_types.specs.declared.events.Event.{Event}
@@ -14,17 +15,6 @@ use Rattle.mirror_io.specs.declared.live.LiveWrite.{LiveWrite}
 use Rattle.mirror_io.specs.declared.live.LiveRead.{LiveRead}
 use Rattle.mirror_io.specs.Flight.{write_in, read_in, missing_leg}
 use Rattle.cluster_model.specs.State.{Core, is_target}
-
--- the guard refuses where the test fails
-abbrev pub unless : Bool → Refusal → Option Refusal
-unless true r = None
-unless false r = Some r
-
--- the first guard that refuses
-abbrev pub first_of : List (Option Refusal) → Option Refusal
-first_of [] = None
-first_of (Some r ∷ guards) = Some r
-first_of (None ∷ guards) = first_of guards
 
 -- guards on the node
 

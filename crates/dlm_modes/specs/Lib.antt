@@ -1,2 +1,4 @@
 pub mod First
+pub mod Guards
 pub mod Modes
+pub mod Points

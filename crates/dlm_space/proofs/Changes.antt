@@ -7,7 +7,8 @@ use Rattle.dlm_modes.specs.declared.block.Block.{Block}
 use Rattle.dlm_modes.specs.declared.mode.Mode.{Mode}
 use Rattle.dlm_modes.specs.declared.mode.Mode.TheVariants.{NL}
 use Rattle.dlm_space.specs.Queues.{ask_for, asks, without, head}
-use Rattle.dlm_space.specs.Locks.{Lock, with_at, mode_of, is_writer, holding, with_value, queued, converted_value, released_value, converted, granted_from, answer_to, answer_from, convert_answer}
+use Rattle.dlm_modes.specs.Points.{with_at}
+use Rattle.dlm_space.specs.Locks.{Lock, mode_of, is_writer, holding, with_value, queued, converted_value, released_value, converted, granted_from, answer_to, answer_from, convert_answer}
 use Rattle.dlm_space.specs.Parts.{IsQueue}
 use Rattle.dlm_space.specs.Orderly.{IsOrderly}
 use Rattle.dlm_space.specs.Sound.{holds_writer}

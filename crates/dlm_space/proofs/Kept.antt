@@ -7,7 +7,9 @@ use Rattle.dlm_modes.specs.declared.block.Block.{Block}
 use Rattle.dlm_modes.specs.declared.mode.Mode.{Mode}
 use Rattle.dlm_modes.specs.declared.mode.Mode.TheVariants.{NL}
 use Rattle.dlm_space.specs.Queues.{ask_for, asks, head}
-use Rattle.dlm_space.specs.Locks.{Lock, new_lock, with_at, mode_of, disagrees, or_then, blocker, blocked, ask_refusal, ask_now_refusal, convert_refusal, convert_now_refusal, head_refusal, grant_refusal, release_refusal, holding, with_value, asked, asked_now, queued, converted_value, converted, converted_now, granted_from, granted, released, died}
+use Rattle.dlm_modes.specs.Guards.{or_then}
+use Rattle.dlm_modes.specs.Points.{with_at}
+use Rattle.dlm_space.specs.Locks.{Lock, new_lock, mode_of, disagrees, blocker, blocked, ask_refusal, ask_now_refusal, convert_refusal, convert_now_refusal, head_refusal, grant_refusal, release_refusal, holding, with_value, asked, asked_now, queued, converted_value, converted, converted_now, granted_from, granted, released, died}
 use Rattle.dlm_space.specs.Parts.{IsQueue}
 use Rattle.dlm_space.specs.Orderly.{agree, IsOrderly}
 use Rattle.dlm_space.specs.declared.answers.LockError.{LockError}

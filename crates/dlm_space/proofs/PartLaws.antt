@@ -4,7 +4,8 @@ use Rattle.std.proofs.lemmas.List.{get_or_default, get_or_past}
 use Rattle.std.proofs.lemmas.Bool.Decides.{nat_tests}
 use Rattle.std.proofs.Math.Path.{fun_ext}
 use Rattle.dlm_modes.specs.declared.mode.Mode.{Mode}
-use Rattle.dlm_space.specs.Locks.{Lock, new_lock, new_locks, zero_block, with_at, died, all_died}
+use Rattle.dlm_modes.specs.Points.{with_at}
+use Rattle.dlm_space.specs.Locks.{Lock, new_lock, new_locks, zero_block, died, all_died}
 use Rattle.dlm_space.specs.Parts.{Part, lock_of, locks_of, no_part}
 use Rattle.dlm_space.specs.declared.ask.Ask.{Ask}
 

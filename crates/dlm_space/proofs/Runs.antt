@@ -1,6 +1,7 @@
 -- Every list of accepted calls keeps all locks orderly.
 use Rattle.std.proofs.Common.{ℕ, List, [], ◌∷◌, true, false, ◌==◌, if◌then◌else◌}
-use Rattle.dlm_space.specs.Locks.{Lock, with_at, asked, asked_now, converted, converted_now, granted, released}
+use Rattle.dlm_modes.specs.Points.{with_at}
+use Rattle.dlm_space.specs.Locks.{Lock, asked, asked_now, converted, converted_now, granted, released}
 use Rattle.dlm_space.specs.Calls.{Call, Asks, AsksNow, Converts, ConvertsNow, Grants, Releases, Dies, AreAccepted, locks_after}
 use Rattle.dlm_space.specs.Orderly.{IsOrderly}
 use Rattle.dlm_space.proofs.Kept.{new_orderly, ask_keeps, ask_now_keeps, convert_keeps, convert_now_keeps, grant_keeps, release_keeps, die_keeps}

@@ -3,7 +3,8 @@ use Rattle.std.proofs.Common.{◌≡◌, ◌<◌, ℕ, List, [], ◌∷◌, Opti
 use Rattle.std.specs.Result.{result_err}
 use Rattle.dlm_modes.specs.declared.block.Block.{Block}
 use Rattle.dlm_modes.specs.declared.mode.Mode.{Mode}
-use Rattle.dlm_space.specs.Locks.{Lock, new_locks, with_at, ask_refusal, ask_now_refusal, convert_refusal, convert_now_refusal, grant_refusal, release_refusal, asked, asked_now, converted, converted_now, granted, released, all_died, valid_block, convert_answer, grant_answer}
+use Rattle.dlm_modes.specs.Points.{with_at}
+use Rattle.dlm_space.specs.Locks.{Lock, new_locks, ask_refusal, ask_now_refusal, convert_refusal, convert_now_refusal, grant_refusal, release_refusal, asked, asked_now, converted, converted_now, granted, released, all_died, valid_block, convert_answer, grant_answer}
 use Rattle.dlm_space.specs.Parts.{Part, locks_of}
 use Rattle.dlm_space.specs.Calls.{Call, Asks, AsksNow, Converts, ConvertsNow, Grants, Releases, Dies, effect, IsAccepted, AreAccepted, locks_after}
 use Rattle.dlm_space.specs.declared.answers.Converted.{Converted}

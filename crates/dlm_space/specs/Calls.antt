@@ -2,7 +2,8 @@
 use Rattle.std.specs.Prelude.{◌≡◌, ℕ, ◌<◌, List, [], ◌∷◌, Option, Some, None}
 use Rattle.dlm_modes.specs.declared.block.Block.{Block}
 use Rattle.dlm_modes.specs.declared.mode.Mode.{Mode}
-use Rattle.dlm_space.specs.Locks.{Lock, new_locks, with_at, ask_refusal, ask_now_refusal, convert_refusal, convert_now_refusal, grant_refusal, release_refusal, asked, asked_now, converted, converted_now, granted, released, all_died, valid_block, convert_answer, grant_answer}
+use Rattle.dlm_modes.specs.Points.{with_at}
+use Rattle.dlm_space.specs.Locks.{Lock, new_locks, ask_refusal, ask_now_refusal, convert_refusal, convert_now_refusal, grant_refusal, release_refusal, asked, asked_now, converted, converted_now, granted, released, all_died, valid_block, convert_answer, grant_answer}
 use Rattle.dlm_space.specs.declared.answers.Converted.{Converted}
 use Rattle.dlm_space.specs.declared.answers.Granted.{Granted}
 use Rattle.dlm_space.specs.declared.answers.LockError.{LockError}

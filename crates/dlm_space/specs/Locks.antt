@@ -2,7 +2,9 @@
 -- For each call: what refuses it, what becomes of the lock, and what is answered.
 use Rattle.std.specs.Prelude.{ℕ, ◌==◌, Bool, true, false, not, ◌&&◌, ◌||◌, if◌then◌else◌, List, [], ◌∷◌, ◌++◌, Option, Some, None, is_some, is_none, unwrap_or, replicate}
 use Rattle.dlm_modes.specs.First.{first_such}
+use Rattle.dlm_modes.specs.Guards.{unless, or_then}
 use Rattle.dlm_modes.specs.Modes.{agrees, weaker, writes_value, reads_value}
+use Rattle.dlm_modes.specs.Points.{with_at}
 use Rattle.dlm_modes.specs.declared.block.Block.{Block}
 use Rattle.dlm_modes.specs.declared.mode.Mode.{Mode}
 use Rattle.dlm_modes.specs.declared.mode.Mode.TheVariants.{NL, PW, EX}
@@ -34,10 +36,6 @@ new_lock = record { held = λ n. None; conversions = []; requests = []; block = 
 abbrev pub new_locks : ℕ → Lock
 new_locks r = new_lock
 
--- f with v at n
-abbrev pub with_at : {A : Type 0} → (ℕ → A) → ℕ → A → ℕ → A
-with_at f n v m = if m == n then v else f m
-
 -- the mode that the node holds, or NL
 abbrev pub mode_of : Lock → ℕ → Mode
 mode_of lock n = unwrap_or (lock.held n) NL
@@ -49,16 +47,6 @@ is_writer EX = true
 is_writer mode = false
 
 -- Guards.
-
--- the guard refuses where the test fails
-abbrev pub unless : Bool → LockError → Option LockError
-unless true e = None
-unless false e = Some e
-
--- the first of two guards that refuses
-abbrev pub or_then : Option LockError → Option LockError → Option LockError
-or_then (Some e) next = Some e
-or_then None next = next
 
 -- what is held disagrees with the mode
 abbrev pub disagrees : Mode → Option Mode → Bool

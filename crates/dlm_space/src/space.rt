@@ -2,7 +2,8 @@ ghost use Rattle.std.specs.Prelude.{◌≡◌, ◌<◌, ℕ, IfOk, OnOk, OnErr, 
 ghost use Rattle.std.specs.Option.{option_map};
 ghost use Rattle.std.specs.Result.{result_err};
 ghost use Rattle.dlm_space.specs.Queues.{head};
-ghost use Rattle.dlm_space.specs.Locks.{new_locks, with_at, ask_refusal, ask_now_refusal, convert_refusal, convert_now_refusal, grant_refusal, release_refusal, asked, asked_now, converted, converted_now, granted, released, all_died, valid_block, convert_answer, grant_answer, caller};
+ghost use Rattle.dlm_modes.specs.Points.{with_at};
+ghost use Rattle.dlm_space.specs.Locks.{new_locks, ask_refusal, ask_now_refusal, convert_refusal, convert_now_refusal, grant_refusal, release_refusal, asked, asked_now, converted, converted_now, granted, released, all_died, valid_block, convert_answer, grant_answer, caller};
 ghost use Rattle.dlm_space.specs.Parts.{locks_of};
 
 use crate::resource::Resource;

@@ -1,1 +1,2 @@
 pub mod BitsLaws
+pub mod RolesLaws

@@ -1,7 +1,7 @@
 -- Roles of legs and states of nodes.
-use Rattle.std.specs.Prelude.{ℕ, Bool, true, false, get_or}
+use Rattle.std.specs.Prelude.{ℕ, ◌+◌, ◌==◌, Bool, true, false, if◌then◌else◌, Option, Some, None, get_or}
 use Rattle.mdc_types.specs.declared.roles.Role.{Role}
-use Rattle.mdc_types.specs.declared.roles.Role.TheVariants.{Working, Rebuilding, Spare}
+use Rattle.mdc_types.specs.declared.roles.Role.TheVariants.{Working, Rebuilding, Faulty, Spare}
 use Rattle.mdc_types.specs.declared.roles.Roles.{Roles}
 use Rattle.mdc_types.specs.declared.roles.NodeState.{NodeState}
 use Rattle.mdc_types.specs.declared.roles.NodeState.TheVariants as states
@@ -21,6 +21,23 @@ abbrev pub is_written : Role → Bool
 is_written Working = true
 is_written Rebuilding = true
 is_written r = false
+
+-- the number of a leg's role in a superblock and in a message. A working leg's is its own, and faulty and spare
+-- are those of md's superblock 1.2; rebuilding is this project's
+abbrev pub role_code : ℕ → Role → ℕ
+role_code l Working = l
+role_code l Rebuilding = 32768 + l
+role_code l Faulty = 65534
+role_code l Spare = 65535
+
+-- the role of leg l that has the number
+abbrev pub role_of_code : ℕ → ℕ → Option Role
+role_of_code l code =
+    if code == l then Some Working
+    else if code == 32768 + l then Some Rebuilding
+    else if code == 65534 then Some Faulty
+    else if code == 65535 then Some Spare
+    else None
 
 -- the word of a state
 abbrev pub state_word : NodeState → Word

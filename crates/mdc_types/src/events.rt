@@ -22,7 +22,7 @@ pub enum Wish {
     Grow(u32),
 }
 
-/// An event of the cluster. Each has its line in a script.
+/// An event of the cluster. Each is given with its line, where scripts have one for it.
 #[derive(Clone, Copy)]
 pub enum Event {
     /// `cut n l`: the path from the node to the leg is cut.

@@ -1,5 +1,5 @@
 ghost use Rattle.std.specs.Prelude.{◌≡◌, ◌<◌};
-ghost use Rattle.mdc_types.specs.Roles.{role_of, state_word};
+ghost use Rattle.mdc_types.specs.Roles.{role_of, role_code, role_of_code, state_word};
 
 use crate::LegId;
 use crate::refusals::Word;
@@ -15,6 +15,37 @@ pub enum Role {
     Faulty,
     /// It isn't part of the mirror.
     Spare,
+}
+
+impl Role {
+    /// The number that says this role of leg `l` in a superblock and in a message: `l` where it works,
+    /// `0x8000 + l` where it is rebuilding, else 0xfffe (faulty) or 0xffff (spare). After the device
+    /// roles of md's superblock 1.2; that of a rebuilding leg is this project's own.
+    pub fn code(&self, l: LegId) -> u16
+        requires { l < 8 }
+        ensures { result ≡ role_code l self.now }
+    {
+        match self {
+            Role::Working => l as u16,
+            Role::Rebuilding => 0x8000 + l as u16,
+            Role::Faulty => 0xfffe,
+            Role::Spare => 0xffff,
+        }
+    }
+
+    /// The role of leg `l` whose number this is. None where it is no role's.
+    pub fn of_code(l: LegId, code: u16) -> Option<Role>
+        requires { l < 8 }
+        ensures { result ≡ role_of_code l code }
+    {
+        match code {
+            0xfffe => Some(Role::Faulty),
+            0xffff => Some(Role::Spare),
+            _ if code == l as u16 => Some(Role::Working),
+            _ if code == 0x8000 + l as u16 => Some(Role::Rebuilding),
+            _ => None,
+        }
+    }
 }
 
 /// The roles of the eight legs. A leg that isn't there is a spare.
@@ -52,6 +83,30 @@ impl NodeState {
             NodeState::Joining => Word::Joining,
             NodeState::Loaded => Word::Loaded,
             NodeState::Up => Word::Up,
+        }
+    }
+}
+
+#[cfg(test)]
+mod tests {
+    use super::*;
+
+    #[test]
+    fn numbers_of_roles(rt: HostRuntime) {
+        for (l, code, role) in [
+            (0, 0, Some(Role::Working)),
+            (7, 7, Some(Role::Working)),
+            (7, 0x8007, Some(Role::Rebuilding)),
+            (3, 0xfffe, Some(Role::Faulty)),
+            (3, 0xffff, Some(Role::Spare)),
+            (3, 4, None),
+            (3, 0x8004, None),
+            (3, 0xfffd, None),
+        ] {
+            assert_eq!(rt; Role::of_code(l, code), role, "{code} of leg {l}");
+            if let Some(role) = role {
+                assert_eq!(rt; role.code(l), code, "{role:?} of leg {l}");
+            }
         }
     }
 }
