@@ -1,8 +1,7 @@
 -- What an accepted event tells of its guards.
-use Rattle.std.proofs.Common.{◌≡◌, ℕ, ◌<◌, ◌&&◌, Bool, true, false, not, Option, Some, None, List, [], ◌∷◌, length, refl, arith}
-use Rattle.std.specs.Prelude.{nat_lt, is_none}
+use Rattle.std.proofs.Common.{◌≡◌, ℕ, ◌<◌, ◌&&◌, Bool, true, false, not, Option, Some, None, List, ◌∷◌, length, refl, arith}
+use Rattle.std.specs.Prelude.{nat_lt}
 use Rattle.std.proofs.lemmas.Bool.Decides.{nat_tests}
-use Rattle.dlm_modes.specs.First.{first_such}
 use Rattle.dlm_modes.specs.Guards.{unless, first_of}
 use Rattle.dlm_modes.proofs.FirstLaws.{first_such_none}
 use Rattle.mdc_types.specs.Geometry.{nodes_of}

@@ -1,5 +1,5 @@
 -- What an accepted event does to the core, by its outcome: attribute by attribute.
-use Rattle.std.specs.Prelude.{ℕ, ◌+◌, ◌==◌, Bool, true, false, not, ◌&&◌, if◌then◌else◌, is_none, unwrap_or, List, [], ◌∷◌, ◌++◌, Option, Some, None}
+use Rattle.std.specs.Prelude.{ℕ, ◌+◌, ◌==◌, Bool, true, not, ◌&&◌, if◌then◌else◌, is_none, unwrap_or, List, [], ◌∷◌, ◌++◌, Option, Some, None}
 use Rattle.dlm_modes.specs.First.{first_such}
 use Rattle.dlm_modes.specs.Points.{with_at}
 use Rattle.mdc_types.specs.declared.events.Event.{Event}

@@ -9,7 +9,7 @@ use Rattle.mdc_types.specs.declared.outcomes.Entry.{Entry}
 use Rattle.mirror_io.specs.declared.live.LiveWrite.{LiveWrite}
 use Rattle.mirror_io.specs.declared.live.LiveRead.{LiveRead}
 use Rattle.mirror_io.specs.Flight.{write_in, read_in}
-use Rattle.cluster_model.specs.State.{Core, State, Legs, place_of}
+use Rattle.cluster_model.specs.State.{State, Legs, place_of}
 use Rattle.cluster_model.specs.Table.{refusal}
 use Rattle.cluster_model.specs.Effects.{after, failed, read_leg}
 

@@ -1,5 +1,5 @@
 -- The table: for each event its guards in order.
-use Rattle.std.specs.Prelude.{ℕ, ◌==◌, nat_lt, length, Bool, true, false, not, ◌&&◌, ◌||◌, List, [], ◌∷◌, Option, Some, None}
+use Rattle.std.specs.Prelude.{ℕ, ◌==◌, nat_lt, length, Bool, true, false, ◌||◌, List, [], ◌∷◌, Option, Some, None}
 use Rattle.dlm_modes.specs.First.{first_such}
 use Rattle.dlm_modes.specs.Guards.{unless, first_of}
 use Rattle.mdc_types.specs.Geometry.{nodes_of}

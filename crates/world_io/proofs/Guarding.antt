@@ -1,7 +1,7 @@
 -- Guards in order.
 use Rattle.std.proofs.Common.{◌≡◌, Option, Some, None, List, ◌∷◌, refl}
 use Rattle.mdc_types.specs.declared.refusals.Refusal.{Refusal}
-use Rattle.cluster_model.specs.Table.{first_of}
+use Rattle.dlm_modes.specs.Guards.{first_of}
 
 pub first_of_some : (g : Option Refusal) (r : Refusal) (rest : List (Option Refusal)) → g ≡ Some r → first_of (g ∷ rest) ≡ Some r
 first_of_some g r rest is = rw is refl
