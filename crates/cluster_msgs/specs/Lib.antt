@@ -1,0 +1,4 @@
+pub mod Layout
+pub mod Messages
+pub mod Ranges
+pub mod Reading
