@@ -1,0 +1,10 @@
+pub mod Bytes
+pub mod GuardLaws
+pub mod NoFault
+pub mod OneSpelling
+pub mod PieceLaws
+pub mod Places
+pub mod RoleNumbers
+pub mod Spelled
+pub mod Sums
+pub mod Written

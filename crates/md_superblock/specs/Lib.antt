@@ -1,0 +1,6 @@
+pub mod Faults
+pub mod Laws
+pub mod Layout
+pub mod Pieces
+pub mod Superblock
+pub mod Words
