@@ -1,0 +1,14 @@
+use Rattle.std.proofs.Common.{arith}
+use Rattle.std.proofs.lemmas.List.{with_items_is}
+use Rattle.node_bitmaps.specs.Bitmap.{forgotten, Bitmap}
+use Rattle.node_bitmaps.proofs.MapLaws.{step_from, whole_after, bits_after, size_after}
+use Rattle.node_bitmaps.proofs.node_map.NodeMap.forget.Goals as goal
+
+pub invariant_of-self : goal.invariant_of-self
+invariant_of-self c = whole_after _ c.forget_all.new.cells c.self.inside.cells.items _ c.forget_all.new.fresh c.self.inside.fresh.items (λ (m : Bitmap). forgotten m) (with_items_is c.self.inside.cells c.forget_all.new.cells (omega arith)) (with_items_is c.self.inside.fresh c.forget_all.new.fresh (omega arith)) (omega arith) (omega arith) c.self.invariant (step_from c.forget_all.new.cells c.deref_mut.result.now c.self.inside.cells.items c.forget_all.new.fresh c.deref_mut-2.result.now c.self.inside.fresh.items (λ (m : Bitmap). forgotten m) c.deref_mut.ensures.value c.deref_mut-2.ensures.value c.forget_all.ensures) (λ c. omega arith)
+
+pub returns-clause-bits : goal.returns-clause-bits
+returns-clause-bits c = bits_after _ c.forget_all.new.cells c.self.inside.cells.items _ c.forget_all.new.fresh c.self.inside.fresh.items c.args.self.now (λ (m : Bitmap). forgotten m) (with_items_is c.self.inside.cells c.forget_all.new.cells (omega arith)) (with_items_is c.self.inside.fresh c.forget_all.new.fresh (omega arith)) c.self.view_is (step_from c.forget_all.new.cells c.deref_mut.result.now c.self.inside.cells.items c.forget_all.new.fresh c.deref_mut-2.result.now c.self.inside.fresh.items (λ (m : Bitmap). forgotten m) c.deref_mut.ensures.value c.deref_mut-2.ensures.value c.forget_all.ensures)
+
+pub returns-clause-size : goal.returns-clause-size
+returns-clause-size c = size_after _ c.forget_all.new.cells c.self.inside.cells.items _ c.forget_all.new.fresh c.self.inside.fresh.items c.args.self.now (with_items_is c.self.inside.cells c.forget_all.new.cells (omega arith)) (with_items_is c.self.inside.fresh c.forget_all.new.fresh (omega arith)) (omega arith) (omega arith) c.self.view_is
