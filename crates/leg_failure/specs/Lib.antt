@@ -1,0 +1,4 @@
+pub mod Sets
+pub mod Views
+pub mod Losses
+pub mod Withdrawals

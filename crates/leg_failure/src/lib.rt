@@ -1,0 +1,14 @@
+//! A node's view of the legs of a mirror: their roles, those that it lost, and the array's size.
+//! Which legs it writes and reads, what it proposes to the others, and what becomes of it in a round.
+#![tactic(auto)]
+
+mod laws;
+mod legs;
+mod roles;
+#[cfg(test)]
+mod tests;
+mod view;
+
+pub use laws::takers_have_legs;
+pub use roles::{least_leg, with_role, working_of, written_of};
+pub use view::{Lose, View};
