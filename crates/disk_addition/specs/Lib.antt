@@ -1,0 +1,3 @@
+pub mod Names
+pub mod Additions
+pub mod Wishes
