@@ -1,0 +1,10 @@
+use Rattle.std.proofs.Common.{◌≡◌, ◌-◌, length, not, ◌&&◌}
+use Rattle.dlm_modes.specs.First.{first_such}
+use Rattle.mdc_types.specs.Bits.{has_bit}
+use Rattle.node_recovery.specs.Pages.{is_whole}
+use Rattle.node_recovery.specs.Progress.{bits_of}
+use Rattle.node_recovery.proofs.pages.leg_left.Given as goal
+
+abbrev pub invariant-loop-l : goal.invariant-loop-l
+invariant-loop-l l =
+    first_such (λ k. has_bit l.legs k && not (is_whole (bits_of l.done) (length l.done) k)) 0 8 ≡ first_such (λ k. has_bit l.legs k && not (is_whole (bits_of l.done) (length l.done) k)) l.l (8 - l.l)
