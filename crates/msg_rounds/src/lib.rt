@@ -1,0 +1,18 @@
+//! Message rounds: how a node of the cluster says something to all others.
+//!
+//! After the Linux kernel's `Documentation/driver-api/md/md-cluster.rst`, section 3 ("Communication").
+//! No call takes memory.
+#![tactic(auto)]
+
+mod calls;
+mod errors;
+mod phases;
+mod receiver;
+mod sender;
+#[cfg(test)]
+mod tests;
+
+pub use errors::RoundError;
+pub use phases::{ReceiverPhase, SenderPhase, Verdict};
+pub use receiver::Receiver;
+pub use sender::Sender;
