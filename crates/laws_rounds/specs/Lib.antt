@@ -1,0 +1,5 @@
+pub mod Going
+pub mod Invariants
+pub mod Machine
+pub mod Sound
+pub mod Traces
