@@ -1,6 +1,6 @@
 -- From the lines that were played to what the program answers.
-use Rattle.std.proofs.Common.{◌≡◌, inl, inr, ℕ, ◌+◌, ◌<◌, ◌<◌, ◌≤◌, ◌⊎◌, arith, Option, Some, None, Result, Ok, List, ◌++◌, length, take, refl, sym, ◌∙◌, ap, subst}
-use Rattle.std.specs.Prelude.{reverse, slice_get}
+use Rattle.std.proofs.Common.{◌≡◌, inl, inr, ℕ, ◌+◌, ◌<◌, ◌≤◌, ◌⊎◌, arith, Option, Some, None, Ok, Err, Bool, true, false, cond, List, [], ◌∷◌, ◌++◌, length, take, refl, sym, ◌∙◌, ap, subst}
+use Rattle.std.specs.Prelude.{reverse, slice_get, codes}
 use Rattle.std.proofs.Math.Seq.{take-append-add}
 use Rattle.mdc_types.specs.Faults.{Rose}
 use Rattle.mdc_types.specs.declared.outcomes.Entry.{Entry}
@@ -9,6 +9,11 @@ use Rattle.cluster_model.specs.Opening.{Opens}
 use Rattle.script_text.specs.declared.command.Command.{Command}
 use Rattle.script_text.specs.declared.command.Command.TheVariants as commands
 use Rattle.script_text.specs.declared.command.WordsEnd.{WordsEnd}
+use Rattle.script_text.specs.declared.command.WordsEnd.TheVariants.{Memory}
+use Rattle.script_text.specs.declared.locks.LockLine.{LockLine}
+use Rattle.script_text.specs.Locks.{IsLockScript, lock_script_of, lock_fault_of}
+use Rattle.script_text.specs.Words.{command_of}
+use Rattle.std.specs.Str.{bytes_eq}
 use Rattle.script_text.specs.declared.faults.ScriptFault.{ScriptFault}
 use Rattle.script_text.specs.declared.script.Start.{Start}
 use Rattle.script_text.specs.declared.script.Line.{Line}
@@ -23,9 +28,12 @@ use Rattle.laws_history.proofs.Places.{runs_cut, legs_tell}
 use Rattle.laws_history.proofs.Runs.{runs_legal, runs_fresh}
 use Rattle.cluster_core.specs.World.{trace_limit}
 use Rattle.mdc.specs.Lines.{AllTold, AtPlace, Playing, origin_of, Plays, Sofar, CutShort, RanFull}
-use Rattle.mdc.specs.Answers.{Outside, Reads, Judged, Answers, Ran, PlaysSome, PlaysFull, ReadsScript, ReadsNone, trace_full_line, script_line}
+use Rattle.mdc.specs.Outside.{Outside, Wrote, WroteLess, Reads, usage_line, read_fault_line, script_line}
+use Rattle.mdc.specs.Answers.{Judged, PlayAnswers, AnswersTo, Answers, Ran, PlaysSome, PlaysFull, ReadsScript, ReadsNone, trace_full_line}
 use Rattle.mdc.specs.Answers.RunText.{some_lines, then_full}
-use Rattle.mdc.specs.Answers.IsText.{no_script, of_run}
+use Rattle.mdc.specs.Answers.IsText.{no_input, no_script, of_run}
+use Rattle.mdc.specs.LockAnswers.{ReadsLocks, ReadsNoLocks, LocksJudged, LockAnswers}
+use Rattle.mdc.specs.LockAnswers.LocksCut.{at_input, at_fault, in_run}
 use Rattle.mdc.specs.declared.status.Status.{Status}
 use Rattle.mdc.specs.declared.status.Status.TheVariants as statuses
 use Rattle.mdc.proofs.Played.{run_of, with_back-append}
@@ -140,17 +148,78 @@ module _ (o : Outside) (bytes : List ℕ) (reads : Reads o bytes) where
   none_read : (fault : ScriptFault) → script_of bytes ≡ None → fault ≡ fault_of bytes → ReadsNone o fault
   none_read fault none is = record { bytes = bytes; reads = reads; none = none; is = is }
 
-  pub answers_of : (status : Status) → Judged bytes o.written o.written_after status → (status ≡ statuses.WriteFault → Rose o.sink_faults o.sink_faults_after) → Answers o status
-  answers_of statuses.Done judged rose = (judged.0, (script_read judged.0 judged.1.0, judged.1.1))
-  answers_of statuses.TraceFull judged rose = (judged.0, (script_read judged.0 judged.1.0, judged.1.1))
-  answers_of (statuses.Script fault) judged rose = (none_read fault judged.0 judged.1, judged.2)
-  answers_of statuses.WriteFault (inl none) rose = (rose refl, (script_line none.0, (no_script (none_read none.0 none.1.0 none.1.1), none.1.2)))
-  answers_of statuses.WriteFault (inr script) rose = (rose refl, (script.1.1.0, (of_run (script_read script.0 script.1.0) script.1.1.1.0, script.1.1.1.1)))
-  answers_of statuses.Memory (inl same) rose = (reads.play, inl same)
-  answers_of statuses.Memory (inr script) rose = (reads.play, inr (script.0, (script_read script.0 script.1.0, script.1.1)))
-  answers_of statuses.Usage judged rose = absurd judged.1.1
-  answers_of statuses.ReadFault judged rose = absurd judged.1.1
+  play_answers_of : (status : Status) → Judged bytes o.written o.written_after status → (status ≡ statuses.WriteFault → Rose o.sink_faults o.sink_faults_after) → PlayAnswers o status
+  play_answers_of statuses.Done judged rose = (judged.0, (script_read judged.0 judged.1.0, judged.1.1))
+  play_answers_of statuses.TraceFull judged rose = (judged.0, (script_read judged.0 judged.1.0, judged.1.1))
+  play_answers_of (statuses.Script fault) judged rose = (none_read fault judged.0 judged.1, judged.2)
+  play_answers_of statuses.WriteFault (inl none) rose = (rose refl, (script_line none.0, (no_script (none_read none.0 none.1.0 none.1.1), none.1.2)))
+  play_answers_of statuses.WriteFault (inr script) rose = (rose refl, (script.1.1.0, (of_run (script_read script.0 script.1.0) script.1.1.1.0, script.1.1.1.1)))
+  play_answers_of statuses.Memory (inl same) rose = inl same
+  play_answers_of statuses.Memory (inr script) rose = inr (script.0, (script_read script.0 script.1.0, script.1.1))
+  play_answers_of statuses.Usage judged rose = absurd judged.1.1
+  play_answers_of statuses.ReadFault judged rose = absurd judged.1.1
 
--- the one command there is
-pub is_play : (found : Result Command WordsEnd) (c : Command) → found ≡ Ok c → found ≡ Ok commands.Play
-is_play found commands.Play is = is
+  locks_read : (script : List LockLine) → IsLockScript bytes script → ReadsLocks o script
+  locks_read script is = record { bytes = bytes; reads = reads; is = is }
+
+  no_locks_read : (fault : ScriptFault) → lock_script_of bytes ≡ None → fault ≡ lock_fault_of bytes → ReadsNoLocks o fault
+  no_locks_read fault none is = record { bytes = bytes; reads = reads; none = none; is = is }
+
+  lock_answers_of : (status : Status) → LocksJudged bytes o.written o.written_after status → (status ≡ statuses.WriteFault → Rose o.sink_faults o.sink_faults_after) → LockAnswers o status
+  lock_answers_of statuses.Done judged rose = (judged.0, (locks_read judged.0 judged.1.0, judged.1.1))
+  lock_answers_of (statuses.Script fault) judged rose = (no_locks_read fault judged.0 judged.1, judged.2)
+  lock_answers_of statuses.WriteFault (inl none) rose = (rose refl, at_fault (no_locks_read none.0 none.1.0 none.1.1) none.1.2)
+  lock_answers_of statuses.WriteFault (inr script) rose = (rose refl, in_run (locks_read script.0 script.1.0) script.1.1)
+  lock_answers_of statuses.Memory (inl same) rose = inl same
+  lock_answers_of statuses.Memory (inr script) rose = inr (script.0, (locks_read script.0 script.1.0, script.1.1))
+  lock_answers_of statuses.Usage judged rose = absurd judged
+  lock_answers_of statuses.ReadFault judged rose = absurd judged
+  lock_answers_of statuses.TraceFull judged rose = absurd judged
+
+  module _ (status : Status) (rose : status ≡ statuses.WriteFault → Rose o.sink_faults o.sink_faults_after) where
+    pub play_answers : command_of o.words ≡ Ok commands.Play → Judged bytes o.written o.written_after status → Answers o status
+    play_answers is judged = subst (λ w. AnswersTo w o status) (sym is) (play_answers_of status judged rose)
+
+    pub lock_answers : command_of o.words ≡ Ok commands.Locks → LocksJudged bytes o.written o.written_after status → Answers o status
+    lock_answers is judged = subst (λ w. AnswersTo w o status) (sym is) (lock_answers_of status judged rose)
+
+-- where no bytes were taken
+module _ (o : Outside) where
+  read_fault_of : (c : Command) → Rose o.source_faults o.source_faults_after → Wrote o read_fault_line → AnswersTo (Ok c) o statuses.ReadFault
+  read_fault_of commands.Play rose wrote = (rose, wrote)
+  read_fault_of commands.Locks rose wrote = (rose, wrote)
+
+  cut_of : (c : Command) → Rose o.sink_faults o.sink_faults_after → Rose o.source_faults o.source_faults_after → WroteLess o read_fault_line → AnswersTo (Ok c) o statuses.WriteFault
+  cut_of commands.Play rose failed front = (rose, (read_fault_line, (no_input failed, (front.0, front.2))))
+  cut_of commands.Locks rose failed front = (rose, at_input failed front)
+
+  memory_of : (c : Command) → o.written_after ≡ o.written → AnswersTo (Ok c) o statuses.Memory
+  memory_of commands.Play same = inl same
+  memory_of commands.Locks same = inl same
+
+  module _ (c : Command) (is : command_of o.words ≡ Ok c) where
+    pub read_fault_answers : Rose o.source_faults o.source_faults_after → Wrote o read_fault_line → Answers o statuses.ReadFault
+    read_fault_answers rose wrote = subst (λ w. AnswersTo w o statuses.ReadFault) (sym is) (read_fault_of c rose wrote)
+
+    pub cut_answers : Rose o.sink_faults o.sink_faults_after → Rose o.source_faults o.source_faults_after → WroteLess o read_fault_line → Answers o statuses.WriteFault
+    cut_answers rose failed front = subst (λ w. AnswersTo w o statuses.WriteFault) (sym is) (cut_of c rose failed front)
+
+    pub memory_answers : o.written_after ≡ o.written → Answers o statuses.Memory
+    memory_answers same = subst (λ w. AnswersTo w o statuses.Memory) (sym is) (memory_of c same)
+
+  module _ (end : WordsEnd) (is : command_of o.words ≡ Err end) where
+    pub no_command_answers : Wrote o usage_line → o.left_after ≡ o.left → Answers o statuses.Usage
+    no_command_answers wrote same = subst (λ w. AnswersTo w o statuses.Usage) (sym is) (wrote, same)
+
+    pub no_command_cut : Rose o.sink_faults o.sink_faults_after → WroteLess o usage_line → o.left_after ≡ o.left → Answers o statuses.WriteFault
+    no_command_cut rose front same = subst (λ w. AnswersTo w o statuses.WriteFault) (sym is) (rose, front, same)
+
+chosen : {A : Type 0} (b : Bool) (x y z : A) (P : Type 0) → cond b x y ≡ z → (x ≡ z → P) → (y ≡ z → P) → P
+chosen true x y z P is f g = f is
+chosen false x y z P is f g = g is
+
+-- no words want memory
+pub words_fit : (words : List (List ℕ)) → command_of words ≡ Err Memory → ⊥
+words_fit [] is = cc
+words_fit (word ∷ []) is = chosen (bytes_eq word (codes "play")) _ _ _ _ is (λ is. cc) (λ is. chosen (bytes_eq word (codes "locks")) _ _ _ _ is (λ is. cc) (λ is. cc))
+words_fit (word ∷ other ∷ words) is = cc

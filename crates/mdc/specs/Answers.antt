@@ -1,57 +1,32 @@
 -- What the program answers, and when.
-use Rattle.std.specs.Prelude.{◌≡◌, ◌⊎◌, ℕ, List, ◌++◌, take, slice_get, codes, IfSome, Option, Some, None, Ok, Err, length}
-use Rattle.std.specs.Fmt.{decimal}
+use Rattle.std.specs.Prelude.{◌≡◌, ◌⊎◌, ℕ, List, ◌++◌, take, slice_get, codes, Option, Some, None, Result, Ok, Err, length}
 use Rattle.mdc_types.specs.Faults.{Rose}
 use Rattle.mdc_types.specs.declared.events.Event.{Event}
 use Rattle.mdc_types.specs.declared.outcomes.Entry.{Entry}
 use Rattle.cluster_model.specs.State.{State}
 use Rattle.cluster_model.specs.Table.{refusal}
 use Rattle.cluster_core.specs.World.{trace_limit}
+use Rattle.script_text.specs.declared.command.Command.{Command}
 use Rattle.script_text.specs.declared.command.Command.TheVariants as commands
-use Rattle.script_text.specs.declared.command.WordsEnd.TheVariants as words_ends
+use Rattle.script_text.specs.declared.command.WordsEnd.{WordsEnd}
 use Rattle.script_text.specs.declared.faults.ScriptFault.{ScriptFault}
 use Rattle.script_text.specs.declared.script.Line.TheVariants as line_kinds
-use Rattle.script_text.specs.Lines.{input_part}
-use Rattle.script_text.specs.Outside.{with_front, with_back}
+use Rattle.script_text.specs.Outside.{with_back}
 use Rattle.script_text.specs.Script.{ScriptValue, IsScript, script_of, fault_of}
-use Rattle.script_text.specs.Words.{command_of, fault_word}
-use Rattle.mdc.specs.Lines.{printed, Playing}
+use Rattle.script_text.specs.Words.{command_of}
+use Rattle.mdc.specs.Lines.{Playing}
+use Rattle.mdc.specs.LockAnswers.{LockAnswers}
+use Rattle.mdc.specs.Outside.{Outside, Wrote, WroteLess, Reads, printed, usage_line, read_fault_line, script_line}
 use Rattle.mdc.specs.declared.status.Status.{Status}
 use Rattle.mdc.specs.declared.status.Status.TheVariants as statuses
 
--- what a call sees of the outside: the words, and of the source and the sink what they tell and their counts of faults, before and after
-pub record Outside : Type 0 where
-  pub words : List (List ℕ)
-  pub left : Option (List ℕ)
-  pub left_after : Option (List ℕ)
-  pub written : Option (List ℕ)
-  pub written_after : Option (List ℕ)
-  pub source_faults : ℕ
-  pub source_faults_after : ℕ
-  pub sink_faults : ℕ
-  pub sink_faults_after : ℕ
-
-abbrev pub IsPlay : Outside → Type 0
-IsPlay o = command_of o.words ≡ Ok commands.Play
-
-abbrev pub IsNoCommand : Outside → Type 0
-IsNoCommand o = command_of o.words ≡ Err words_ends.Usage
-
--- just this text was written, and just a front of it
-abbrev pub Wrote : Outside → List ℕ → Type 0
-Wrote o text = o.written_after ≡ with_back o.written text
-
+-- a front of this text was written
 abbrev pub WroteFront : Outside → List ℕ → Type 0
 WroteFront o text = (n : ℕ) × Wrote o (take n text)
 
--- the words say `play`, and these bytes were taken from the source: up to the end of the script and no further
-pub record Reads (o : Outside) (bytes : List ℕ) : Type 0 where
-  pub play : IsPlay o
-  pub given : o.left ≡ with_front bytes o.left_after
-  pub part : IfSome o.left (λ left. bytes ≡ input_part left)
-  pub alone : input_part bytes ≡ bytes
+-- Playing.
 
--- they are this script
+-- the bytes that were taken are this script
 pub record ReadsScript (o : Outside) (script : ScriptValue) : Type 0 where
   pub bytes : List ℕ
   pub reads : Reads o bytes
@@ -88,18 +63,8 @@ pub record PlaysFull (script : ScriptValue) (text : List ℕ) : Type 0 where
   pub accepted : refusal end.core event ≡ None
   pub full : length past ≡ trace_limit
 
--- the last lines of a call that comes to nothing
-abbrev pub usage_line : List ℕ
-usage_line = printed (codes "usage")
-
-abbrev pub read_fault_line : List ℕ
-read_fault_line = printed (codes "read-fault")
-
 abbrev pub trace_full_line : List ℕ
 trace_full_line = printed (codes "trace-full")
-
-abbrev pub script_line : ScriptFault → List ℕ
-script_line f = printed (codes "script " ++ decimal f.line ++ codes " " ++ fault_word f.kind)
 
 -- what a script's lines say, as far as they were played
 pub data RunText (script : ScriptValue) : List ℕ → Type 0 where
@@ -119,27 +84,9 @@ Ran script written now s = ⊥
 
 -- what is to be written, as far as the call comes
 pub data IsText (o : Outside) : List ℕ → Type 0 where
-  no_command : IsNoCommand o → IsText o usage_line
-  no_input : IsPlay o → Rose o.source_faults o.source_faults_after → IsText o read_fault_line
+  no_input : Rose o.source_faults o.source_faults_after → IsText o read_fault_line
   no_script : {fault : ScriptFault} → ReadsNone o fault → IsText o (script_line fault)
   of_run : {script : ScriptValue} {text : List ℕ} → ReadsScript o script → RunText script text → IsText o text
-
--- what each status says
-abbrev pub Answers : Outside → Status → Type 0
--- the script was played to its end
-Answers o statuses.Done = (script : ScriptValue) × (ReadsScript o script × Ran script o.written o.written_after statuses.Done)
--- the words are no command, and nothing was taken
-Answers o statuses.Usage = IsNoCommand o × Wrote o usage_line × (o.left_after ≡ o.left)
--- the bytes are no script
-Answers o (statuses.Script fault) = ReadsNone o fault × Wrote o (script_line fault)
--- a read failed
-Answers o statuses.ReadFault = IsPlay o × Rose o.source_faults o.source_faults_after × Wrote o read_fault_line
--- a write failed, and a front of the text was written
-Answers o statuses.WriteFault = Rose o.sink_faults o.sink_faults_after × ((text : List ℕ) × (IsText o text × WroteFront o text))
--- memory is wanting: nothing was written, or a front of what the lines say
-Answers o statuses.Memory = IsPlay o × ((o.written_after ≡ o.written) ⊎ ((script : ScriptValue) × (ReadsScript o script × Ran script o.written o.written_after statuses.Memory)))
--- an event found the trace full
-Answers o statuses.TraceFull = (script : ScriptValue) × (ReadsScript o script × Ran script o.written o.written_after statuses.TraceFull)
 
 -- how bytes were judged and played, and what was written
 abbrev pub Judged : List ℕ → Option (List ℕ) → Option (List ℕ) → Status → Type 0
@@ -149,3 +96,36 @@ Judged bytes written now statuses.WriteFault =
     ⊎ ((script : ScriptValue) × (IsScript bytes script × Ran script written now statuses.WriteFault))
 Judged bytes written now statuses.Memory = (now ≡ written) ⊎ ((script : ScriptValue) × (IsScript bytes script × Ran script written now statuses.Memory))
 Judged bytes written now status = (script : ScriptValue) × (IsScript bytes script × Ran script written now status)
+
+-- what each status says where the words are `play`
+abbrev pub PlayAnswers : Outside → Status → Type 0
+-- the script was played to its end
+PlayAnswers o statuses.Done = (script : ScriptValue) × (ReadsScript o script × Ran script o.written o.written_after statuses.Done)
+-- the bytes are no script
+PlayAnswers o (statuses.Script fault) = ReadsNone o fault × Wrote o (script_line fault)
+-- a read failed
+PlayAnswers o statuses.ReadFault = Rose o.source_faults o.source_faults_after × Wrote o read_fault_line
+-- a write failed, and a front of the text was written
+PlayAnswers o statuses.WriteFault = Rose o.sink_faults o.sink_faults_after × ((text : List ℕ) × (IsText o text × WroteFront o text))
+-- memory is wanting: nothing was written, or a front of what the lines say
+PlayAnswers o statuses.Memory = (o.written_after ≡ o.written) ⊎ ((script : ScriptValue) × (ReadsScript o script × Ran script o.written o.written_after statuses.Memory))
+-- an event found the trace full
+PlayAnswers o statuses.TraceFull = (script : ScriptValue) × (ReadsScript o script × Ran script o.written o.written_after statuses.TraceFull)
+PlayAnswers o statuses.Usage = ⊥
+
+-- Words.
+
+-- where the words are no command, nothing was taken from the source
+abbrev pub NoCommandAnswers : Outside → Status → Type 0
+NoCommandAnswers o statuses.Usage = Wrote o usage_line × (o.left_after ≡ o.left)
+NoCommandAnswers o statuses.WriteFault = Rose o.sink_faults o.sink_faults_after × WroteLess o usage_line × (o.left_after ≡ o.left)
+NoCommandAnswers o status = ⊥
+
+abbrev pub AnswersTo : Result Command WordsEnd → Outside → Status → Type 0
+AnswersTo (Ok commands.Play) o status = PlayAnswers o status
+AnswersTo (Ok commands.Locks) o status = LockAnswers o status
+AnswersTo (Err end) o status = NoCommandAnswers o status
+
+-- what each status says, by the words
+abbrev pub Answers : Outside → Status → Type 0
+Answers o status = AnswersTo (command_of o.words) o status

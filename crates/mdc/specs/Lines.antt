@@ -20,10 +20,7 @@ use Rattle.script_text.specs.declared.script.Line.{Line}
 use Rattle.script_text.specs.declared.script.Line.TheVariants as line_kinds
 use Rattle.report_text.specs.Outcomes.{outcome_line}
 use Rattle.report_text.specs.Refusals.{refusal_line}
-
--- a text with its line feed
-abbrev pub printed : List ℕ → List ℕ
-printed text = text ++ 10 ∷ []
+use Rattle.mdc.specs.Outside.{printed}
 
 abbrev pub accepted_text : Outcome → List ℕ
 accepted_text o = printed (outcome_line o)

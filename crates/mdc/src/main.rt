@@ -1,11 +1,13 @@
-//! `mdc` plays scripts of cluster events over a mirror's legs.
+//! `mdc` plays scripts of cluster events over a mirror's legs, and runs scripts of a lock space.
 #![tactic(auto)]
 
 ghost use Rattle.std.specs.Prelude.{◌≡◌, drop};
 
 mod array;
 mod checking;
+mod endings;
 mod lines;
+mod locks;
 mod play;
 mod status;
 #[cfg(test)]

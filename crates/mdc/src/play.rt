@@ -1,4 +1,4 @@
-ghost use Rattle.std.specs.Prelude.{◌≡◌, ◌≤◌, true, false, is_ok, map, IfOk};
+ghost use Rattle.std.specs.Prelude.{◌≡◌, ◌≤◌, true, false, is_ok, map};
 ghost use Rattle.std.specs.List.{AllByRecursion};
 ghost use Rattle.std.specs.String.{string_bytes};
 ghost use Rattle.mdc_types.specs.Bits.{has_bit};
@@ -6,29 +6,18 @@ ghost use Rattle.mdc_types.specs.Faults.{Rose};
 ghost use Rattle.mdc_types.specs.Geometry.{geometry_of};
 ghost use Rattle.script_text.specs.Script.{is_event_line};
 ghost use Rattle.script_text.specs.Outside.{TookOfPart};
-ghost use Rattle.mdc.specs.Answers.{Answers, Judged, Ran, script_line};
+ghost use Rattle.mdc.specs.Answers.{Answers, Judged, Ran};
 
 use crate::array::open_world;
+use crate::endings::script_line;
 use crate::lines::{LinesEnd, play_lines};
+use crate::locks::lock_bytes;
 use crate::status::Status;
 use script_text::{
-    Command, InputEnd, Script, ScriptEnd, ScriptFault, Sink, Source, WordsEnd, read_input,
-    read_script, read_words, write_all,
+    Command, InputEnd, Script, ScriptEnd, Sink, Source, WordsEnd, read_input, read_script,
+    read_words, write_all,
 };
-use std::alloc::{AllocError, Global};
-
-// The last line of a script that is none.
-fn script_line(alloc: Global, fault: &ScriptFault) -> Result<String, AllocError>
-    ensures { IfOk result (λ t. string_bytes t ≡ script_line fault.now) }
-{
-    let line = fault.line;
-    let mut text = String::from_str(alloc, "script ")?;
-    text.push_str(line.to_string(alloc)?.as_str())?;
-    text.push_str(" ")?;
-    text.push_str(fault.kind.word())?;
-    text.push_str("\n")?;
-    Ok(text)
-}
+use std::alloc::Global;
 
 // Plays a script, and says how the lines ended.
 fn run_script<K: Sink>(alloc: Global, script: &Script, sink: &mut K) -> Status
@@ -53,8 +42,9 @@ fn run_script<K: Sink>(alloc: Global, script: &Script, sink: &mut K) -> Status
     }
 }
 
-/// What `mdc` does: it reads the words, the script from the source, and plays it over legs in memory,
-/// writing one line of text for each line of the script.
+/// What `mdc` does: it reads the words, and the script from the source. With `play` it plays it over
+/// legs in memory, with `locks` it runs it in a lock space, and it writes one line of text for each line
+/// of the script.
 ///
 /// It waits for nobody and returns, whatever the bytes are. `Answers` says for each status when it
 /// comes and what was written. Whatever the status, nothing was taken from the source that stands
@@ -79,8 +69,11 @@ pub fn play<S: Source, K: Sink>(
     ensures taken { TookOfPart (S.left source.old) (S.left source.new) }
 {
     match read_words(words) {
-        Ok(Command::Play) => match read_input(alloc, source) {
-            Ok(bytes) => play_bytes(alloc, bytes.as_slice(), sink),
+        Ok(command) => match read_input(alloc, source) {
+            Ok(bytes) => match command {
+                Command::Play => play_bytes(alloc, bytes.as_slice(), sink),
+                Command::Locks => lock_bytes(alloc, bytes.as_slice(), sink),
+            },
             Err(InputEnd::Failed) => match write_all(sink, b"read-fault\n") {
                 Ok(()) => Status::ReadFault,
                 Err(_) => Status::WriteFault,

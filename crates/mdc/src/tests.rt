@@ -156,9 +156,37 @@ fn no_command(rt: HostRuntime) -> Result<(), AllocError> {
     assert!(rt; is_no_command(alloc, &["frob"])?);
     assert!(rt; is_no_command(alloc, &[])?);
     assert!(rt; is_no_command(alloc, &["play", "play"])?);
+    assert!(rt; is_no_command(alloc, &["locks", "play"])?);
     assert!(rt; is_no_command(alloc, &["Play"])?);
     assert!(rt; !is_no_command(alloc, &["play"])?);
     assert_eq!(rt; Status::Usage.code(), 2);
+    Ok(())
+}
+
+// What stands after the line `end` isn't judged.
+#[test]
+fn locks(rt: HostRuntime) -> Result<(), AllocError> {
+    let script =
+        b"ask 0 message EX\ngrant message\nconvert 0 message CW\nask 1 message CR\ngrant message\nup 1 message PR\nrelease 1 message\nrelease 1 message\nend\nfrob\n";
+    let played = play_words(rt.alloc(), &["locks"], script)?;
+    assert_eq!(rt; played.status, Status::Done);
+    assert_eq!(rt;
+        played.sink.bytes(),
+        b"asked\ngranted 0 EX\nconverted\nasked\ngranted 1 CR\nrefused blocked 0 CW\nreleased\nrefused not-held\n".as_slice()
+    );
+    let played = play_words(rt.alloc(), &["locks"], b"")?;
+    let fault = ScriptFault {
+        line: 1,
+        kind: FaultKind::NoEnd,
+    };
+    assert_eq!(rt; played.status, Status::Script(fault));
+    assert_eq!(rt; played.sink.bytes(), b"script 1 no-end\n".as_slice());
+    let played = play_failing(rt.alloc(), &["locks"], script, &[1], &[])?;
+    assert_eq!(rt; played.status, Status::ReadFault);
+    assert_eq!(rt; played.sink.bytes(), b"read-fault\n".as_slice());
+    let played = play_failing(rt.alloc(), &["locks"], script, &[], &[2])?;
+    assert_eq!(rt; played.status, Status::WriteFault);
+    assert_eq!(rt; played.sink.bytes(), b"asked\ngranted 0 EX\n".as_slice());
     Ok(())
 }
 

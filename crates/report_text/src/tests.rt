@@ -1,5 +1,6 @@
 use super::*;
 use dlm_modes::Mode;
+use dlm_space::LockError;
 use mdc_types::{Event, Outcome, Part, Range, Refusal, Res, Role, Sector, Wish, Word};
 use std::alloc::{AllocError, Global};
 use std::test::Fail;
@@ -306,6 +307,54 @@ const REFUSALS: [(Refusal, &str); 89] = [
 fn refusals(rt: HostRuntime) -> Result<(), Fail> {
     for (refusal, want) in REFUSALS {
         assert_eq!(rt; refusal_text(rt.alloc(), &refusal)?.as_str(), want);
+    }
+    Ok(())
+}
+
+const REPLIES: [(LockReply, &str); 13] = [
+    (LockReply::Asked, "asked"),
+    (
+        LockReply::Granted {
+            node: 15,
+            mode: Mode::EX,
+        },
+        "granted 15 EX",
+    ),
+    (LockReply::Converted, "converted"),
+    (LockReply::Released, "released"),
+    (LockReply::Died, "done"),
+    (LockReply::Calls(Some(12)), "calls 12"),
+    (LockReply::Calls(None), "calls -"),
+    (LockReply::Refused(LockError::NotFree), "refused not-free"),
+    (LockReply::Refused(LockError::NotHeld), "refused not-held"),
+    (
+        LockReply::Refused(LockError::AlreadyAsked),
+        "refused already-asked",
+    ),
+    (
+        LockReply::Refused(LockError::Blocked {
+            holder: 10,
+            mode: Mode::CW,
+        }),
+        "refused blocked 10 CW",
+    ),
+    (
+        LockReply::Refused(LockError::NothingAsked),
+        "refused nothing-asked",
+    ),
+    (
+        LockReply::Refused(LockError::NotGrantable {
+            holder: 0,
+            mode: Mode::PR,
+        }),
+        "refused not-grantable 0 PR",
+    ),
+];
+
+#[test]
+fn replies(rt: HostRuntime) -> Result<(), Fail> {
+    for (reply, want) in REPLIES {
+        assert_eq!(rt; lock_reply_text(rt.alloc(), &reply)?.as_str(), want);
     }
     Ok(())
 }

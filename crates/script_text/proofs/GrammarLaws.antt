@@ -17,7 +17,7 @@ use Rattle.script_text.specs.Steps.{guarded}
 use Rattle.script_text.specs.Judging.{◌>>=◌, at_line}
 use Rattle.script_text.specs.Script.{ScriptValue, number_word, byte_word, value_word, is_start, warm_with, start_with, warm_start, start_of, is_line_event, is_event_line, ask_write, out_write, end_write, ask_read, in_read, event_of, event_line, check_line, line_of, said_by, end_of, with_lines, line_then, body_of, header_then, script_in, judged}
 
-bind_ok : {A B E : Type 0} (r : Result A E) (f : A → Result B E) (y : B) → (r >>= f) ≡ Ok y → (x : A) × (r ≡ Ok x) × (f x ≡ Ok y)
+pub bind_ok : {A B E : Type 0} (r : Result A E) (f : A → Result B E) (y : B) → (r >>= f) ≡ Ok y → (x : A) × (r ≡ Ok x) × (f x ≡ Ok y)
 bind_ok (Err e) f y is = cc
 bind_ok (Ok x) f y is = (x, refl, is)
 
@@ -25,7 +25,7 @@ guarded_some : {A : Type 0} (b : Bool) (x y : A) → guarded b x ≡ Some y → 
 guarded_some true x y is = (refl, cc)
 guarded_some false x y is = cc
 
-ok_or_some : {A E : Type 0} (o : Option A) (e : E) (x : A) → ok_or o e ≡ Ok x → o ≡ Some x
+pub ok_or_some : {A E : Type 0} (o : Option A) (e : E) (x : A) → ok_or o e ≡ Ok x → o ≡ Some x
 ok_or_some None e x is = cc
 ok_or_some (Some y) e x is = cc
 
@@ -34,10 +34,10 @@ at_line_ok : {A : Type 0} (n : ℕ) (r : Result A FaultKind) (x : A) → at_line
 at_line_ok n (Err kind) x is = cc
 at_line_ok n (Ok y) x is = cc
 
-abbrev ok_with : {A : Type 0} (E : Type 0) → A → Result A E
+abbrev pub ok_with : {A : Type 0} (E : Type 0) → A → Result A E
 ok_with E x = Ok x
 
-ok_same : {A E : Type 0} {x y : A} → ok_with E x ≡ ok_with E y → x ≡ y
+pub ok_same : {A E : Type 0} {x y : A} → ok_with E x ≡ ok_with E y → x ≡ y
 ok_same is = cc
 
 pub record IsHeader (s : Start) : Type 0 where
@@ -103,7 +103,7 @@ in_read_is args e is =
     subst (λ x. is_line_event x ≡ true) (ok_same read.2) refl
 
 -- the first word that fits
-chosen : {A E : Type 0} (b : Bool) (x y z : Result A E) (P : Type 0) → cond b x y ≡ z → (x ≡ z → P) → (y ≡ z → P) → P
+pub chosen : {A E : Type 0} (b : Bool) (x y z : Result A E) (P : Type 0) → cond b x y ≡ z → (x ≡ z → P) → (y ≡ z → P) → P
 chosen true x y z P is f g = f is
 chosen false x y z P is f g = g is
 
@@ -128,29 +128,31 @@ check_line_is (arg ∷ args) line is = cc
 line_is : (word : List ℕ) (args : List (List ℕ)) (line : Line) → line_of word args ≡ Ok line → is_event_line line ≡ true
 line_is word args line is = chosen (bytes_eq word (codes "check")) _ _ (Ok line) _ is (check_line_is args line) (event_line_is word args line)
 
+-- What holds of each line that is read.
+module _ {L : Type 0} (of : List ℕ → List (List ℕ) → Result L FaultKind) (P : L → Type 0) (each : (word : List ℕ) (args : List (List ℕ)) (line : L) → of word args ≡ Ok line → P line) where
+  end_are : (n : ℕ) (args : List (List ℕ)) (lines : List L) → at_line n (end_of args) ≡ Ok lines → AllByRecursion P lines
+  end_are n [] lines is = subst (AllByRecursion P) (ok_same is) tt
+  end_are n (arg ∷ args) lines is = cc
+
+  line_then_are : (n : ℕ) (said : Result (List (List ℕ)) FaultKind) (later : Result (List L) ScriptFault) (lines : List L)
+      → ((ls : List L) → later ≡ Ok ls → AllByRecursion P ls) → line_then of n said later ≡ Ok lines → AllByRecursion P lines
+  line_then_are n (Err kind) later lines f is = cc
+  line_then_are n (Ok []) later lines f is = f lines is
+  line_then_are n (Ok (word ∷ args)) later lines f is =
+      chosen (bytes_eq word (codes "end")) _ _ (Ok lines) _ is
+      (end_are n args lines)
+      (λ is.
+      let first = bind_ok (at_line n (of word args)) _ lines is in
+      let others = bind_ok later _ lines first.2 in
+      subst (AllByRecursion P) (ok_same others.2) (each word args first.0 (at_line_ok n (of word args) first.0 first.1), f others.0 others.1))
+
+  pub body_are : (n room : ℕ) (lines : List (List ℕ)) (ls : List L) → body_of of n room lines ≡ Ok ls → AllByRecursion P ls
+  body_are n room [] ls is = cc
+  body_are n room (line ∷ lines) ls is =
+      line_then_are n (said_by room line) (body_of of (n + 1) (room - length line) lines) ls (body_are (n + 1) (room - length line) lines) is
+
 abbrev AreEvents : List Line → Type 0
 AreEvents lines = AllByRecursion (λ line. is_event_line line ≡ true) lines
-
-end_are : (n : ℕ) (args : List (List ℕ)) (lines : List Line) → at_line n (end_of args) ≡ Ok lines → AreEvents lines
-end_are n [] lines is = subst AreEvents (ok_same is) tt
-end_are n (arg ∷ args) lines is = cc
-
-line_then_are : (n : ℕ) (said : Result (List (List ℕ)) FaultKind) (later : Result (List Line) ScriptFault) (lines : List Line)
-    → ((ls : List Line) → later ≡ Ok ls → AreEvents ls) → line_then n said later ≡ Ok lines → AreEvents lines
-line_then_are n (Err kind) later lines f is = cc
-line_then_are n (Ok []) later lines f is = f lines is
-line_then_are n (Ok (word ∷ args)) later lines f is =
-    chosen (bytes_eq word (codes "end")) _ _ (Ok lines) _ is
-    (end_are n args lines)
-    (λ is.
-    let first = bind_ok (at_line n (line_of word args)) _ lines is in
-    let others = bind_ok later _ lines first.2 in
-    subst AreEvents (ok_same others.2) (line_is word args first.0 (at_line_ok n (line_of word args) first.0 first.1), f others.0 others.1))
-
-pub body_are : (n room : ℕ) (lines : List (List ℕ)) (ls : List Line) → body_of n room lines ≡ Ok ls → AreEvents ls
-body_are n room [] ls is = cc
-body_are n room (line ∷ lines) ls is =
-    line_then_are n (said_by room line) (body_of (n + 1) (room - length line) lines) ls (body_are (n + 1) (room - length line) lines) is
 
 -- The whole.
 
@@ -175,8 +177,8 @@ header_then_is n (Ok (word ∷ args)) later body s f g is =
 script_in_is : (n room : ℕ) (lines : List (List ℕ)) (s : ScriptValue) → script_in n room lines ≡ Ok s → IsWhole s
 script_in_is n room [] s is = cc
 script_in_is n room (line ∷ lines) s is =
-    header_then_is n (said_by room line) (script_in (n + 1) (room - length line) lines) (body_of (n + 1) (room - length line) lines) s
-    (script_in_is (n + 1) (room - length line) lines) (body_are (n + 1) (room - length line) lines) is
+    header_then_is n (said_by room line) (script_in (n + 1) (room - length line) lines) (body_of line_of (n + 1) (room - length line) lines) s
+    (script_in_is (n + 1) (room - length line) lines) (body_are line_of (λ line. is_event_line line ≡ true) line_is (n + 1) (room - length line) lines) is
 
 -- each script is an array, and lines of its events
 pub script_is : (bytes : List ℕ) (s : ScriptValue) → judged bytes ≡ Ok s → IsWhole s

@@ -4,5 +4,6 @@ pub mod NumbersLaws
 pub mod HexLaws
 pub mod ReadingLaws
 pub mod GrammarLaws
+mod LockLaws
 pub mod InputLaws
 pub mod PartLaws

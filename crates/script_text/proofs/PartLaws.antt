@@ -11,19 +11,22 @@ use Rattle.script_text.specs.declared.faults.FaultKind.TheVariants as kinds
 use Rattle.script_text.specs.declared.faults.ScriptFault.{ScriptFault}
 use Rattle.script_text.specs.Judging.{at_line}
 use Rattle.script_text.specs.Lines.{lines_of, text_of, through_end, up_to_end, input_part, script_limit}
-use Rattle.script_text.specs.Script.{ScriptValue, said_by, words_said, line_then, body_of, header_then, script_in, judged}
+use Rattle.script_text.specs.Locks.{lock_line_of, locks_judged}
+use Rattle.script_text.specs.Script.{ScriptValue, said_by, words_said, line_of, line_then, body_of, header_then, script_in, judged}
 use Rattle.script_text.proofs.LinesLaws.{lines_only}
 use Rattle.script_text.proofs.InputLaws.{IsText, IsText-tail, lines_at_feed, text_read, line_read, end_read, end_line}
 
 -- two lists of lines of which the same is read, from line n on
 record Same (n room : ℕ) (xs ys : List (List ℕ)) : Type 0 where
-  body : body_of n room xs ≡ body_of n room ys
+  body : body_of line_of n room xs ≡ body_of line_of n room ys
+  locks : body_of lock_line_of n room xs ≡ body_of lock_line_of n room ys
   script : script_in n room xs ≡ script_in n room ys
 
 same_more : (n room : ℕ) (line : List ℕ) (xs ys : List (List ℕ)) → Same (n + 1) (room - length line) xs ys → Same n room (line ∷ xs) (line ∷ ys)
 same_more n room line xs ys s = record {
-  body = ap (line_then n (said_by room line)) s.body;
-  script = ap (λ later. header_then n (said_by room line) later (body_of (n + 1) (room - length line) xs)) s.script
+  body = ap (line_then line_of n (said_by room line)) s.body;
+  locks = ap (line_then lock_line_of n (said_by room line)) s.locks;
+  script = ap (λ later. header_then n (said_by room line) later (body_of line_of (n + 1) (room - length line) xs)) s.script
       ∙ ap (header_then n (said_by room line) (script_in (n + 1) (room - length line) ys)) s.body;
 }
 
@@ -31,16 +34,17 @@ same_more n room line xs ys s = record {
 said_long : (room : ℕ) (line : List ℕ) → room < length line → said_by room line ≡ Err kinds.Long
 said_long room line long = let t : nat_lt room (length line) ≡ true = grind (arith, nat_tests) in rw t refl
 
-body_long : (n room : ℕ) (line : List ℕ) (xs : List (List ℕ)) → room < length line → body_of n room (line ∷ xs) ≡ at_line n (Err kinds.Long)
-body_long n room line xs long = ap (λ said. line_then n said (body_of (n + 1) (room - length line) xs)) (said_long room line long)
+body_long : {L : Type 0} (of : List ℕ → List (List ℕ) → Result L FaultKind) (n room : ℕ) (line : List ℕ) (xs : List (List ℕ)) → room < length line → body_of of n room (line ∷ xs) ≡ at_line n (Err kinds.Long)
+body_long of n room line xs long = ap (λ said. line_then of n said (body_of of (n + 1) (room - length line) xs)) (said_long room line long)
 
 script_long : (n room : ℕ) (line : List ℕ) (xs : List (List ℕ)) → room < length line → script_in n room (line ∷ xs) ≡ at_line n (Err kinds.Long)
 script_long n room line xs long =
-    ap (λ said. header_then n said (script_in (n + 1) (room - length line) xs) (body_of (n + 1) (room - length line) xs)) (said_long room line long)
+    ap (λ said. header_then n said (script_in (n + 1) (room - length line) xs) (body_of line_of (n + 1) (room - length line) xs)) (said_long room line long)
 
 same_long : (n room : ℕ) (a b : List ℕ) (xs ys : List (List ℕ)) → room < length a → room < length b → Same n room (a ∷ xs) (b ∷ ys)
 same_long n room a b xs ys long longer = record {
-  body = body_long n room a xs long ∙ sym (body_long n room b ys longer);
+  body = body_long line_of n room a xs long ∙ sym (body_long line_of n room b ys longer);
+  locks = body_long lock_line_of n room a xs long ∙ sym (body_long lock_line_of n room b ys longer);
   script = script_long n room a xs long ∙ sym (script_long n room b ys longer);
 }
 
@@ -48,10 +52,10 @@ same_long n room a b xs ys long longer = record {
 abbrev end_said : Bool → Bool → Result (List (List ℕ)) FaultKind
 end_said long text = cond long (Err kinds.Long) (cond text (Ok (words_said (text_of end_line))) (Err kinds.Utf8))
 
-end_then : (n : ℕ) (long text : Bool) (xs ys : Result (List Line) ScriptFault) → line_then n (end_said long text) xs ≡ line_then n (end_said long text) ys
-end_then n true text xs ys = refl
-end_then n false true xs ys = refl
-end_then n false false xs ys = refl
+end_then : {L : Type 0} (of : List ℕ → List (List ℕ) → Result L FaultKind) (n : ℕ) (long text : Bool) (xs ys : Result (List L) ScriptFault) → line_then of n (end_said long text) xs ≡ line_then of n (end_said long text) ys
+end_then of n true text xs ys = refl
+end_then of n false true xs ys = refl
+end_then of n false false xs ys = refl
 
 end_first : (n : ℕ) (long text : Bool) (xs ys : Result ScriptValue ScriptFault) (body body₂ : Result (List Line) ScriptFault)
     → header_then n (end_said long text) xs body ≡ header_then n (end_said long text) ys body₂
@@ -61,13 +65,14 @@ end_first n false false xs ys body body₂ = refl
 
 same_end : (n room : ℕ) (xs ys : List (List ℕ)) → Same n room (end_line ∷ xs) (end_line ∷ ys)
 same_end n room xs ys = record {
-  body = end_then n (nat_lt room (length end_line)) (is_utf8 (text_of end_line)) (body_of (n + 1) (room - length end_line) xs) (body_of (n + 1) (room - length end_line) ys);
+  body = end_then line_of n (nat_lt room (length end_line)) (is_utf8 (text_of end_line)) (body_of line_of (n + 1) (room - length end_line) xs) (body_of line_of (n + 1) (room - length end_line) ys);
+  locks = end_then lock_line_of n (nat_lt room (length end_line)) (is_utf8 (text_of end_line)) (body_of lock_line_of (n + 1) (room - length end_line) xs) (body_of lock_line_of (n + 1) (room - length end_line) ys);
   script = end_first n (nat_lt room (length end_line)) (is_utf8 (text_of end_line)) (script_in (n + 1) (room - length end_line) xs) (script_in (n + 1) (room - length end_line) ys)
-      (body_of (n + 1) (room - length end_line) xs) (body_of (n + 1) (room - length end_line) ys);
+      (body_of line_of (n + 1) (room - length end_line) xs) (body_of line_of (n + 1) (room - length end_line) ys);
 }
 
 same_refl : (n room : ℕ) (xs : List (List ℕ)) → Same n room xs xs
-same_refl n room xs = record { body = refl; script = refl }
+same_refl n room xs = record { body = refl; locks = refl; script = refl }
 
 is_end_line : (line : List ℕ) → bytes_eq line end_line ≡ true → line ≡ end_line
 is_end_line line is = grind (arith, bytes_eq-Decides line end_line)
@@ -199,7 +204,16 @@ same_cut (suc k) n room bytes lt = elim (first_text bytes) [
   ])
 ]
 
+-- the bytes that are taken, and all of them
+part_same : (bytes : List ℕ) → Same 1 script_limit (lines_of (input_part bytes)) (lines_of (up_to_end bytes))
+part_same bytes = same_cut (length (up_to_end bytes) + 1) 1 script_limit (up_to_end bytes) (omega arith)
+
 pub part_judged : (bytes : List ℕ) → judged (input_part bytes) ≡ judged bytes
 part_judged bytes =
-    (same_cut (length (up_to_end bytes) + 1) 1 script_limit (up_to_end bytes) (omega arith)).script
+    (part_same bytes).script
     ∙ (ap (script_in 1 script_limit) (lines_taken (length bytes + 1) bytes (omega arith)) ∙ (same_through 1 script_limit (lines_of bytes)).script)
+
+pub part_locks_judged : (bytes : List ℕ) → locks_judged (input_part bytes) ≡ locks_judged bytes
+part_locks_judged bytes =
+    (part_same bytes).locks
+    ∙ (ap (body_of lock_line_of 1 script_limit) (lines_taken (length bytes + 1) bytes (omega arith)) ∙ (same_through 1 script_limit (lines_of bytes)).locks)

@@ -11,10 +11,9 @@ use Rattle.std.specs.Str.{IsUtf8, is_utf8, bytes_eq}
 use Rattle.script_text.specs.declared.faults.FaultKind.{FaultKind}
 use Rattle.script_text.specs.declared.faults.FaultKind.TheVariants as kinds
 use Rattle.script_text.specs.declared.faults.ScriptFault.{ScriptFault}
-use Rattle.script_text.specs.declared.script.Line.{Line}
 use Rattle.script_text.specs.Judging.{at_line}
 use Rattle.script_text.specs.Lines.{lines_of, words_after}
-use Rattle.script_text.specs.Reading.{BeginsWithLine, ReadsLine, words_read}
+use Rattle.script_text.specs.Reading.{BeginsWithLine, ReadsLine, words_read, extra_words}
 use Rattle.script_text.proofs.LinesLaws.{words_some}
 use Rattle.script_text.specs.Script.{said_by, words_said, end_of, check_line, line_of, line_then, onto_lines, body_of, header_then, script_in}
 
@@ -62,88 +61,115 @@ module _ (bytes : List ℕ) (n room : ℕ) where
   found_read (Err kind) x h is = cc
   found_read (Ok y) x h is = let same : y ≡ x = cc in subst (λ z. ReadsLine bytes room (Ok z)) same h
 
-  pub body_first : (r : Result Found FaultKind) (x : Found) → ReadsLine bytes room r → at_line n r ≡ Ok x
-      → body_of n room (lines_of bytes) ≡ line_then n (Ok (words_read x.0)) (body_of (n + 1) x.2 (lines_of x.1.now))
-  body_first r x h is =
-      let f = found_read r x h is in
-      ap (body_of n room) f.1
-      ∙ (ap (λ said. line_then n said (body_of (n + 1) (room - length f.0) (lines_of x.1.now))) f.2
-      ∙ ap (λ left. line_then n (Ok (words_read x.0)) (body_of (n + 1) left (lines_of x.1.now))) (sym f.3))
+  module _ {L : Type 0} (of : List ℕ → List (List ℕ) → Result L FaultKind) where
+    pub body_first : (r : Result Found FaultKind) (x : Found) → ReadsLine bytes room r → at_line n r ≡ Ok x
+        → body_of of n room (lines_of bytes) ≡ line_then of n (Ok (words_read x.0)) (body_of of (n + 1) x.2 (lines_of x.1.now))
+    body_first r x h is =
+        let f = found_read r x h is in
+        ap (body_of of n room) f.1
+        ∙ (ap (λ said. line_then of n said (body_of of (n + 1) (room - length f.0) (lines_of x.1.now))) f.2
+        ∙ ap (λ left. line_then of n (Ok (words_read x.0)) (body_of of (n + 1) left (lines_of x.1.now))) (sym f.3))
 
-  pub body_wrong : (r : Result Found FaultKind) (fault : ScriptFault) → ReadsLine bytes room r → at_line n r ≡ Err fault → body_of n room (lines_of bytes) ≡ Err fault
-  body_wrong (Err kind) fault h is =
-      ap (body_of n room) h.2 ∙ (ap (λ said. line_then n said (body_of (n + 1) (room - length h.0) (lines_of h.1))) h.3 ∙ ap Err (err_same is))
-  body_wrong (Ok x) fault h is = cc
+    pub body_wrong : (r : Result Found FaultKind) (fault : ScriptFault) → ReadsLine bytes room r → at_line n r ≡ Err fault → body_of of n room (lines_of bytes) ≡ Err fault
+    body_wrong (Err kind) fault h is =
+        ap (body_of of n room) h.2 ∙ (ap (λ said. line_then of n said (body_of of (n + 1) (room - length h.0) (lines_of h.1))) h.3 ∙ ap Err (err_same is))
+    body_wrong (Ok x) fault h is = cc
 
   pub script_first : (r : Result Found FaultKind) (x : Found) → ReadsLine bytes room r → at_line n r ≡ Ok x
-      → script_in n room (lines_of bytes) ≡ header_then n (Ok (words_read x.0)) (script_in (n + 1) x.2 (lines_of x.1.now)) (body_of (n + 1) x.2 (lines_of x.1.now))
+      → script_in n room (lines_of bytes) ≡ header_then n (Ok (words_read x.0)) (script_in (n + 1) x.2 (lines_of x.1.now)) (body_of line_of (n + 1) x.2 (lines_of x.1.now))
   script_first r x h is =
       let f = found_read r x h is in
       ap (script_in n room) f.1
-      ∙ (ap (λ said. header_then n said (script_in (n + 1) (room - length f.0) (lines_of x.1.now)) (body_of (n + 1) (room - length f.0) (lines_of x.1.now))) f.2
-      ∙ ap (λ left. header_then n (Ok (words_read x.0)) (script_in (n + 1) left (lines_of x.1.now)) (body_of (n + 1) left (lines_of x.1.now))) (sym f.3))
+      ∙ (ap (λ said. header_then n said (script_in (n + 1) (room - length f.0) (lines_of x.1.now)) (body_of line_of (n + 1) (room - length f.0) (lines_of x.1.now))) f.2
+      ∙ ap (λ left. header_then n (Ok (words_read x.0)) (script_in (n + 1) left (lines_of x.1.now)) (body_of line_of (n + 1) left (lines_of x.1.now))) (sym f.3))
 
   pub script_wrong : (r : Result Found FaultKind) (fault : ScriptFault) → ReadsLine bytes room r → at_line n r ≡ Err fault → script_in n room (lines_of bytes) ≡ Err fault
   script_wrong (Err kind) fault h is =
       ap (script_in n room) h.2
-      ∙ (ap (λ said. header_then n said (script_in (n + 1) (room - length h.0) (lines_of h.1)) (body_of (n + 1) (room - length h.0) (lines_of h.1))) h.3 ∙ ap Err (err_same is))
+      ∙ (ap (λ said. header_then n said (script_in (n + 1) (room - length h.0) (lines_of h.1)) (body_of line_of (n + 1) (room - length h.0) (lines_of h.1))) h.3 ∙ ap Err (err_same is))
   script_wrong (Ok x) fault h is = cc
 
 -- lines that were read, and those that are still to be read
-abbrev pub after_lines : List Line → Result (List Line) ScriptFault → Result (List Line) ScriptFault
+abbrev pub after_lines : {L : Type 0} → List L → Result (List L) ScriptFault → Result (List L) ScriptFault
 after_lines front (Err fault) = Err fault
 after_lines front (Ok lines) = Ok (front ++ lines)
 
--- the line `end`
-pub line_then-end : (n : ℕ) (word : List ℕ) (args : List (List ℕ)) (later : Result (List Line) ScriptFault) → bytes_eq word (codes "end") ≡ true
-    → line_then n (Ok (word ∷ args)) later ≡ at_line n (end_of args)
-line_then-end n word args later is = rw is refl
+-- words stand after the first
+pub some_more : (args : Option (Bor (List ℕ))) → true ≡ is_some args → extra_words (words_after (option_copied args)) ≡ Some kinds.Count
+some_more None some = cc
+some_more (Some more) some = let w = words_some more.now in rw w.2 refl
 
--- another line
-pub line_then-other : (n : ℕ) (word : List ℕ) (args : List (List ℕ)) (later : Result (List Line) ScriptFault) → bytes_eq word (codes "end") ≡ false
-    → line_then n (Ok (word ∷ args)) later ≡ onto_lines (at_line n (line_of word args)) later
-line_then-other n word args later is = rw is refl
+-- none do
+pub no_more : (args : Option (Bor (List ℕ))) → false ≡ is_some args → extra_words (words_after (option_copied args)) ≡ None
+no_more None none = refl
+no_more (Some more) none = cc
 
--- one line more
-pub after_lines-onto_lines : (front : List Line) (line : Result Line ScriptFault) (first : Line) (later : Result (List Line) ScriptFault) → line ≡ Ok first
-    → after_lines front (onto_lines line later) ≡ after_lines (front ++ first ∷ []) later
-after_lines-onto_lines front (Err fault) first later is = cc
-after_lines-onto_lines front (Ok line) first (Err fault) is = refl
-after_lines-onto_lines front (Ok line) first (Ok lines) is = let same : line ≡ first = cc in rw same (ap Ok (sym (append_assoc front (first ∷ []) lines)))
+pub end_alone : {L : Type 0} (args : List (List ℕ)) → extra_words args ≡ None → end_of {L = L} args ≡ Ok []
+end_alone [] is = refl
+end_alone (arg ∷ args) is = cc
 
-pub onto_lines-wrong : (line : Result Line ScriptFault) (fault : ScriptFault) (later : Result (List Line) ScriptFault) → line ≡ Err fault → onto_lines line later ≡ Err fault
-onto_lines-wrong (Err f) fault later is = ap Err (err_same is)
-onto_lines-wrong (Ok line) fault later is = cc
-
--- words stand after `end`
-pub end_more : (args : Option (Bor (List ℕ))) → true ≡ is_some args → end_of (words_after (option_copied args)) ≡ Err kinds.Count
-end_more None some = cc
-end_more (Some more) some = let w = words_some more.now in rw w.2 refl
+pub end_more : {L : Type 0} (args : List (List ℕ)) (kind : FaultKind) → extra_words args ≡ Some kind → end_of {L = L} args ≡ Err kind
+end_more [] kind is = cc
+end_more (arg ∷ args) kind is = let same : kinds.Count ≡ kind = cc in ap Err same
 
 -- words stand after `check`
 pub check_more : (args : Option (Bor (List ℕ))) → true ≡ is_some args → check_line (words_after (option_copied args)) ≡ Err kinds.Count
 check_more None some = cc
 check_more (Some more) some = let w = words_some more.now in rw w.2 refl
 
+module _ {L : Type 0} (of : List ℕ → List (List ℕ) → Result L FaultKind) where
+  -- the line `end`
+  pub line_then-end : (n : ℕ) (word : List ℕ) (args : List (List ℕ)) (later : Result (List L) ScriptFault) → bytes_eq word (codes "end") ≡ true
+      → line_then of n (Ok (word ∷ args)) later ≡ at_line n (end_of args)
+  line_then-end n word args later is = rw is refl
+
+  -- another line
+  pub line_then-other : (n : ℕ) (word : List ℕ) (args : List (List ℕ)) (later : Result (List L) ScriptFault) → bytes_eq word (codes "end") ≡ false
+      → line_then of n (Ok (word ∷ args)) later ≡ onto_lines (at_line n (of word args)) later
+  line_then-other n word args later is = rw is refl
+
+-- one line more
+pub after_lines-onto_lines : {L : Type 0} (front : List L) (line : Result L ScriptFault) (first : L) (later : Result (List L) ScriptFault) → line ≡ Ok first
+    → after_lines front (onto_lines line later) ≡ after_lines (front ++ first ∷ []) later
+after_lines-onto_lines front (Err fault) first later is = cc
+after_lines-onto_lines front (Ok line) first (Err fault) is = refl
+after_lines-onto_lines front (Ok line) first (Ok lines) is = let same : line ≡ first = cc in rw same (ap Ok (sym (append_assoc front (first ∷ []) lines)))
+
+pub onto_lines-wrong : {L : Type 0} (line : Result L ScriptFault) (fault : ScriptFault) (later : Result (List L) ScriptFault) → line ≡ Err fault → onto_lines line later ≡ Err fault
+onto_lines-wrong (Err f) fault later is = ap Err (err_same is)
+onto_lines-wrong (Ok line) fault later is = cc
+
 -- Lines were read, and then line n.
-module _ (whole : Result (List Line) ScriptFault) (front : List Line) (bytes : List ℕ) (n room : ℕ) (r : Result Found FaultKind) (so_far : whole ≡ after_lines front (body_of n room (lines_of bytes)))
-    (h : ReadsLine bytes room r) where
-  pub read_skipped : (after : Bor (List ℕ)) (left : ℕ) → at_line n r ≡ Ok (None, after, left) → whole ≡ after_lines front (body_of (n + 1) left (lines_of after.now))
-  read_skipped after left is = so_far ∙ ap (after_lines front) (body_first bytes n room r (None, after, left) h is)
+module _ {L : Type 0} (of : List ℕ → List (List ℕ) → Result L FaultKind) (whole : Result (List L) ScriptFault) (front : List L) (bytes : List ℕ) (n room : ℕ) (r : Result Found FaultKind)
+    (so_far : whole ≡ after_lines front (body_of of n room (lines_of bytes))) (h : ReadsLine bytes room r) where
+  pub read_skipped : (after : Bor (List ℕ)) (left : ℕ) → at_line n r ≡ Ok (None, after, left) → whole ≡ after_lines front (body_of of (n + 1) left (lines_of after.now))
+  read_skipped after left is = so_far ∙ ap (after_lines front) (body_first bytes n room of r (None, after, left) h is)
 
-  module _ (word after : Bor (List ℕ)) (args : Option (Bor (List ℕ))) (left : ℕ) (is : at_line n r ≡ Ok (Some (word, args), after, left)) (other : false ≡ bytes_eq word.now (codes "end")) where
-    at_words : whole ≡ after_lines front (onto_lines (at_line n (line_of word.now (words_after (option_copied args)))) (body_of (n + 1) left (lines_of after.now)))
-    at_words =
+  -- a fault of the line
+  pub read_bad : (fault : ScriptFault) → at_line n r ≡ Err fault → whole ≡ Err fault
+  read_bad fault is = so_far ∙ ap (after_lines front) (body_wrong bytes n room of r fault h is)
+
+  module _ (word after : Bor (List ℕ)) (args : Option (Bor (List ℕ))) (left : ℕ) (is : at_line n r ≡ Ok (Some (word, args), after, left)) where
+    -- the line `end`
+    pub read_end : true ≡ bytes_eq word.now (codes "end") → whole ≡ after_lines front (at_line n (end_of (words_after (option_copied args))))
+    read_end last =
         so_far
-        ∙ ap (after_lines front) (body_first bytes n room r (Some (word, args), after, left) h is
-        ∙ line_then-other n word.now (words_after (option_copied args)) (body_of (n + 1) left (lines_of after.now)) (sym other))
+        ∙ ap (after_lines front) (body_first bytes n room of r (Some (word, args), after, left) h is
+        ∙ line_then-end of n word.now (words_after (option_copied args)) (body_of of (n + 1) left (lines_of after.now)) (sym last))
 
-    pub read_more : (first : Line) → at_line n (line_of word.now (words_after (option_copied args))) ≡ Ok first
-        → whole ≡ after_lines (front ++ first ∷ []) (body_of (n + 1) left (lines_of after.now))
-    read_more first there =
-        at_words ∙ after_lines-onto_lines front (at_line n (line_of word.now (words_after (option_copied args)))) first (body_of (n + 1) left (lines_of after.now)) there
+    module _ (other : false ≡ bytes_eq word.now (codes "end")) where
+      at_words : whole ≡ after_lines front (onto_lines (at_line n (of word.now (words_after (option_copied args)))) (body_of of (n + 1) left (lines_of after.now)))
+      at_words =
+          so_far
+          ∙ ap (after_lines front) (body_first bytes n room of r (Some (word, args), after, left) h is
+          ∙ line_then-other of n word.now (words_after (option_copied args)) (body_of of (n + 1) left (lines_of after.now)) (sym other))
 
-    pub read_wrong : (fault : ScriptFault) → at_line n (line_of word.now (words_after (option_copied args))) ≡ Err fault → whole ≡ Err fault
-    read_wrong fault there =
-        at_words
-        ∙ ap (after_lines front) (onto_lines-wrong (at_line n (line_of word.now (words_after (option_copied args)))) fault (body_of (n + 1) left (lines_of after.now)) there)
+      pub read_more : (first : L) → at_line n (of word.now (words_after (option_copied args))) ≡ Ok first
+          → whole ≡ after_lines (front ++ first ∷ []) (body_of of (n + 1) left (lines_of after.now))
+      read_more first there =
+          at_words ∙ after_lines-onto_lines front (at_line n (of word.now (words_after (option_copied args)))) first (body_of of (n + 1) left (lines_of after.now)) there
+
+      pub read_wrong : (fault : ScriptFault) → at_line n (of word.now (words_after (option_copied args))) ≡ Err fault → whole ≡ Err fault
+      read_wrong fault there =
+          at_words
+          ∙ ap (after_lines front) (onto_lines-wrong (at_line n (of word.now (words_after (option_copied args)))) fault (body_of of (n + 1) left (lines_of after.now)) there)

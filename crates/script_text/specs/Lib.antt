@@ -5,5 +5,6 @@ pub mod Judging
 pub mod Lines
 pub mod Numbers
 pub mod Script
+pub mod Locks
 pub mod Reading
 pub mod Words

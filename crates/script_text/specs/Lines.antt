@@ -21,6 +21,20 @@ abbrev pub words_after : Option (List ℕ) → List (List ℕ)
 words_after None = []
 words_after (Some text) = words_of text
 
+-- a word by its place, if it is there
+
+abbrev pub first : List (List ℕ) → Option (List ℕ)
+first (a ∷ words) = Some a
+first words = None
+
+abbrev pub second : List (List ℕ) → Option (List ℕ)
+second (a ∷ b ∷ words) = Some b
+second words = None
+
+abbrev pub third : List (List ℕ) → Option (List ℕ)
+third (a ∷ b ∷ c ∷ words) = Some c
+third words = None
+
 -- just so many words
 abbrev pub one : List (List ℕ) → Option (List ℕ)
 one (a ∷ []) = Some a

@@ -156,11 +156,11 @@ said_by room line =
     else Err kinds.Utf8
 
 -- the line `end` has no other words, and no lines follow it
-abbrev pub end_of : List (List ℕ) → Result (List Line) FaultKind
+abbrev pub end_of : {L : Type 0} → List (List ℕ) → Result (List L) FaultKind
 end_of [] = Ok []
 end_of (arg ∷ args) = Err kinds.Count
 
-abbrev pub onto_lines : Result Line ScriptFault → Result (List Line) ScriptFault → Result (List Line) ScriptFault
+abbrev pub onto_lines : {L : Type 0} → Result L ScriptFault → Result (List L) ScriptFault → Result (List L) ScriptFault
 onto_lines line lines = do
   first ← line
   others ← lines
@@ -172,18 +172,18 @@ with_lines start lines = do
   ls ← lines
   Ok (record { start = s; lines = ls })
 
--- line n, and the lines after it
-abbrev pub line_then : ℕ → Result (List (List ℕ)) FaultKind → Result (List Line) ScriptFault → Result (List Line) ScriptFault
-line_then n (Err kind) later = at_line n (Err kind)
-line_then n (Ok []) later = later
-line_then n (Ok (word ∷ args)) later =
+-- line n, and the lines after it, where `of` says what a line's first word and the words after it are
+abbrev pub line_then : {L : Type 0} → (List ℕ → List (List ℕ) → Result L FaultKind) → ℕ → Result (List (List ℕ)) FaultKind → Result (List L) ScriptFault → Result (List L) ScriptFault
+line_then of n (Err kind) later = at_line n (Err kind)
+line_then of n (Ok []) later = later
+line_then of n (Ok (word ∷ args)) later =
     if bytes_eq word (codes "end") then at_line n (end_of args)
-    else onto_lines (at_line n (line_of word args)) later
+    else onto_lines (at_line n (of word args)) later
 
--- the lines after the header, from line n on, up to the line `end`
-abbrev pub body_of : ℕ → ℕ → List (List ℕ) → Result (List Line) ScriptFault
-body_of n room [] = at_line n (Err kinds.NoEnd)
-body_of n room (line ∷ lines) = line_then n (said_by room line) (body_of (n + 1) (room - length line) lines)
+-- the lines from line n on, up to the line `end`
+abbrev pub body_of : {L : Type 0} → (List ℕ → List (List ℕ) → Result L FaultKind) → ℕ → ℕ → List (List ℕ) → Result (List L) ScriptFault
+body_of of n room [] = at_line n (Err kinds.NoEnd)
+body_of of n room (line ∷ lines) = line_then of n (said_by room line) (body_of of (n + 1) (room - length line) lines)
 
 -- line n is skipped, or is the header: what follows is the same, or the lines after the header
 abbrev pub header_then : ℕ → Result (List (List ℕ)) FaultKind → Result ScriptValue ScriptFault → Result (List Line) ScriptFault → Result ScriptValue ScriptFault
@@ -194,7 +194,7 @@ header_then n (Ok (word ∷ args)) later body = with_lines (at_line n (start_of 
 abbrev pub script_in : ℕ → ℕ → List (List ℕ) → Result ScriptValue ScriptFault
 script_in n room [] = at_line n (Err kinds.NoArray)
 script_in n room (line ∷ lines) =
-    header_then n (said_by room line) (script_in (n + 1) (room - length line) lines) (body_of (n + 1) (room - length line) lines)
+    header_then n (said_by room line) (script_in (n + 1) (room - length line) lines) (body_of line_of (n + 1) (room - length line) lines)
 
 -- the script, or the first line outside the grammar and what is wrong with it
 abbrev pub judged : List ℕ → Result ScriptValue ScriptFault
@@ -208,7 +208,7 @@ abbrev pub IsScript : List ℕ → ScriptValue → Type 0
 IsScript bytes script = script_of bytes ≡ Some script
 
 -- the fault of what is outside the grammar; a script has none, and gets line 0, which is no line
-abbrev pub fault_in : Result ScriptValue ScriptFault → ScriptFault
+abbrev pub fault_in : {A : Type 0} → Result A ScriptFault → ScriptFault
 fault_in (Err fault) = fault
 fault_in (Ok script) = record { line = 0; kind = kinds.NoEnd }
 

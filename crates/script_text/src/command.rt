@@ -7,6 +7,8 @@ ghost use Rattle.script_text.specs.Words.{command_of};
 pub enum Command {
     /// `play`: it plays the script of its input.
     Play,
+    /// `locks`: it runs the lock script of its input.
+    Locks,
 }
 
 /// Why words are no command.
@@ -22,6 +24,7 @@ pub fn read_words(words: &[String]) -> Result<Command, WordsEnd>
 {
     match words {
         [word] if word.as_str() == "play" => Ok(Command::Play),
+        [word] if word.as_str() == "locks" => Ok(Command::Locks),
         _ => Err(WordsEnd::Usage),
     }
 }

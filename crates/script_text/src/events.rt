@@ -5,6 +5,7 @@ ghost use Rattle.script_text.specs.Script.{event_of, event_line, check_line, lin
 
 use crate::lines::{three, two};
 use crate::numbers::{byte_word, number_word, value_word};
+use crate::reading::ScriptLine;
 use crate::{FaultKind, Line};
 use mdc_types::Event;
 
@@ -71,12 +72,13 @@ fn check_line(args: Option<&str>) -> Result<Line, FaultKind>
     Ok(Line::Check)
 }
 
-/// The line of this first word and the words after it.
-pub(crate) fn line(word: &str, args: Option<&str>) -> Result<Line, FaultKind>
-    ensures { result ≡ line_of word.now (words_after (option_copied args.entry)) }
-{
-    match word {
-        "check" => check_line(args),
-        _ => event_line(word, args),
+impl ScriptLine for Line {
+    ghost says = { line_of };
+
+    fn of_words(word: &str, args: Option<&str>) -> Result<Line, FaultKind> {
+        match word {
+            "check" => check_line(args),
+            _ => event_line(word, args),
+        }
     }
 }

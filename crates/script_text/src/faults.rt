@@ -14,7 +14,8 @@ pub enum FaultKind {
     Utf8,
     /// A header is due, and the line begins with another word or all lines are read.
     NoArray,
-    /// No line that may stand here begins with this word.
+    /// No line that may stand here begins with this word, or a word that is due to be a resource or a
+    /// mode is none.
     Word,
     /// The line has too few words, or too many.
     Count,
@@ -22,7 +23,7 @@ pub enum FaultKind {
     Number,
     /// A word is due to be a value and is none.
     Value,
-    /// The numbers of the header are those of no array.
+    /// The numbers of the header are those of no array, or a lock script's node is over 15.
     Range,
     /// All lines are read, and none is `end`.
     NoEnd,

@@ -11,6 +11,12 @@
 //! value is `-`, which is empty, or 2 to 1,024 lower-case hexadecimal digits, an even number of them.
 //! The rest of the sector is zero.
 //!
+//! A lock script has no header. Its lines are `ask N RES MODE`, `now N RES MODE`, `convert N RES MODE`,
+//! `up N RES MODE`, `grant RES`, `release N RES`, `die N` and `calls N RES`, with the same skipped lines,
+//! the same line `end` and the same limit. Its nodes are 0 to 15, its resources `bitmap000` to
+//! `bitmap015`, `token`, `message`, `ack`, `no-new-dev` and `resync`, and its modes `NL`, `CR`, `CW`,
+//! `PR`, `PW` and `EX`.
+//!
 //! Of bytes that are no script the first line outside the grammar is told, and what is wrong with it.
 #![tactic(auto)]
 
@@ -20,6 +26,7 @@ mod faults;
 mod header;
 mod input;
 mod lines;
+mod locks;
 mod memory;
 mod numbers;
 mod reading;
@@ -31,6 +38,7 @@ mod std_io;
 pub use command::{Command, WordsEnd, read_words};
 pub use faults::{FaultKind, ScriptEnd, ScriptFault};
 pub use input::{InputEnd, read_input};
+pub use locks::{LockLine, LockScript, read_locks};
 pub use memory::{MemSink, MemSource};
 pub use reading::{part_is_judged_as_all, read_script};
 pub use script::{Line, Script, Start};

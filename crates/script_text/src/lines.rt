@@ -1,7 +1,7 @@
 ghost use Rattle.std.specs.Prelude.{◌≡◌, ◌==◌, ◌<◌, ◌∷◌, length, None};
 ghost use Rattle.std.specs.Option.{option_copied, option_map};
 ghost use Rattle.std.specs.List.{position};
-ghost use Rattle.script_text.specs.Lines.{words_of, words_after, one, two, three, four};
+ghost use Rattle.script_text.specs.Lines.{words_of, words_after, first, second, third, one, two, three, four};
 ghost use Rattle.script_text.specs.Reading.{BeginsWithLine};
 
 fn line_feed(bytes: &[u8]) -> Option<usize>
@@ -31,9 +31,32 @@ pub(crate) fn split_word(text: &str) -> (&str, Option<&str>)
     }
 }
 
+// A word by its place among those after the first, if it is there.
+
+pub(crate) fn first(args: Option<&str>) -> Option<&str>
+    ensures { option_copied result ≡ first (words_after (option_copied args.entry)) }
+{
+    let (word, _) = split_word(args?);
+    Some(word)
+}
+
+pub(crate) fn second(args: Option<&str>) -> Option<&str>
+    ensures { option_copied result ≡ second (words_after (option_copied args.entry)) }
+{
+    let (_, others) = split_word(args?);
+    first(others)
+}
+
+pub(crate) fn third(args: Option<&str>) -> Option<&str>
+    ensures { option_copied result ≡ third (words_after (option_copied args.entry)) }
+{
+    let (_, others) = split_word(args?);
+    second(others)
+}
+
 // The words after the first, where there are just so many.
 
-fn one(args: Option<&str>) -> Option<&str>
+pub(crate) fn one(args: Option<&str>) -> Option<&str>
     ensures { option_copied result ≡ one (words_after (option_copied args.entry)) }
 {
     let (word, others) = split_word(args?);

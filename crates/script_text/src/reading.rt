@@ -1,12 +1,14 @@
-ghost use Rattle.std.specs.Prelude.{◌≡◌, ℕ, ◌+◌, ◌<◌, ◌≤◌, List, [], true, false, is_ok, length, Ok, Err, IfOk, MatchResult};
+ghost use Rattle.std.specs.Prelude.{◌≡◌, ℕ, ◌+◌, ◌<◌, ◌≤◌, List, [], true, false, is_ok, length, Ok, Err, IfOk, Result};
 ghost use Rattle.std.specs.List.{AllByRecursion};
 ghost use Rattle.std.specs.Option.{option_copied};
+ghost use Rattle.std.specs.Result.{result_err};
 ghost use Rattle.mdc_types.specs.Geometry.{geometry_of};
+ghost use Rattle.script_text.specs.declared.faults.FaultKind.{FaultKind};
 ghost use Rattle.script_text.specs.Lines.{lines_of, words_after, input_part, script_limit};
-ghost use Rattle.script_text.specs.Script.{Reads, end_of, body_of, script_of, fault_of, words_said, is_event_line};
-ghost use Rattle.script_text.specs.Reading.{words_read, ReadsLine, ReadsStart, Gives};
+ghost use Rattle.script_text.specs.Locks.{lock_script_of, lock_fault_of};
+ghost use Rattle.script_text.specs.Script.{Reads, end_of, body_of, line_of, script_of, fault_of, words_said, is_event_line};
+ghost use Rattle.script_text.specs.Reading.{words_read, extra_words, ReadsLine, ReadsStart, Gives};
 
-use crate::events::line as event_line;
 use crate::faults::at_line;
 use crate::header::start;
 use crate::lines::{split_line, split_word};
@@ -44,6 +46,16 @@ fn next_line(bytes: &[u8], room: usize) -> Result<(Said<'_>, &[u8], usize), Faul
     Ok((said(text), rest, room - len))
 }
 
+/// What stands in the lines of a script, after its header if it has one.
+pub(crate) trait ScriptLine {
+    /// What a line's first word and the words after it are.
+    ghost says: { List ℕ → List (List ℕ) → Result Self FaultKind };
+
+    /// The line of this first word and the words after it.
+    fn of_words(word: &str, args: Option<&str>) -> Result<Self, FaultKind>
+        ensures { result ≡ says word.now (words_after (option_copied args.entry)) };
+}
+
 // The array of the header, the bytes after its line, the number of the line there, and how many bytes
 // the script may still have.
 fn read_start(bytes: &[u8]) -> Result<(Start, &[u8], u32, usize), ScriptFault>
@@ -71,7 +83,7 @@ fn read_start(bytes: &[u8]) -> Result<(Start, &[u8], u32, usize), ScriptFault>
 
 // The line `end` has no other words.
 fn end(args: Option<&str>) -> Result<(), FaultKind>
-    ensures { MatchResult result (λ _. end_of (words_after (option_copied args.entry)) ≡ Ok []) (λ kind. end_of (words_after (option_copied args.entry)) ≡ Err kind) }
+    ensures { result_err result ≡ extra_words (words_after (option_copied args.entry)) }
 {
     if args.is_some() {
         return Err(FaultKind::Count);
@@ -79,10 +91,16 @@ fn end(args: Option<&str>) -> Result<(), FaultKind>
     Ok(())
 }
 
-// The lines after the header, of which the first has this number, up to the line `end`.
-fn read_lines(alloc: Global, bytes: &[u8], line: u32, room: usize) -> Result<Vec<Line>, ScriptEnd>
+/// The lines, of which the first has this number, up to the line `end`. The script may still have so
+/// many bytes there.
+pub(crate) fn read_lines<L: ScriptLine + Drop>(
+    alloc: Global,
+    bytes: &[u8],
+    line: u32,
+    room: usize,
+) -> Result<Vec<L>, ScriptEnd>
     requires { line + room ≤ script_limit + 1 }
-    ensures { Gives (λ lines. lines.items) result (body_of line room (lines_of bytes.now)) }
+    ensures { Gives (λ lines. lines.items) result (body_of L.says line room (lines_of bytes.now)) }
 {
     let mut lines = Vec::new(alloc);
     let mut rest = bytes;
@@ -95,7 +113,7 @@ fn read_lines(alloc: Global, bytes: &[u8], line: u32, room: usize) -> Result<Vec
                 at_line(line, end(args))?;
                 return Ok(lines);
             }
-            lines.push(at_line(line, event_line(word, args))?)?;
+            lines.push(at_line(line, L::of_words(word, args))?)?;
         }
         rest = after;
         line += 1;
@@ -121,13 +139,15 @@ pub fn read_script(alloc: Global, bytes: &[u8]) -> Result<Script, ScriptEnd>
     ensures events { IfOk result (λ s. AllByRecursion (λ line. is_event_line line ≡ true) s.lines) }
 {
     let (start, rest, line, room) = read_start(bytes)?;
-    let lines = read_lines(alloc, rest, line, room)?;
+    let lines = read_lines::<Line>(alloc, rest, line, room)?;
     Ok(Script { start, lines })
 }
 
 /// A law: what [`read_input`](crate::read_input) takes of an input is judged as all of it would be. It
-/// is the same script, and has the same fault.
+/// is the same script, and has the same fault, and so it is as a lock script.
 pub fn part_is_judged_as_all()
     ensures script { (bytes : List ℕ) → script_of (input_part bytes) ≡ script_of bytes }
     ensures fault { (bytes : List ℕ) → fault_of (input_part bytes) ≡ fault_of bytes }
+    ensures lock_script { (bytes : List ℕ) → lock_script_of (input_part bytes) ≡ lock_script_of bytes }
+    ensures lock_fault { (bytes : List ℕ) → lock_fault_of (input_part bytes) ≡ lock_fault_of bytes }
 {}

@@ -1,5 +1,6 @@
 use super::*;
-use mdc_types::{Event, Failed, Sector};
+use dlm_modes::Mode;
+use mdc_types::{Event, Failed, Res, Sector};
 use std::alloc::Global;
 use std::io;
 use std::io::{ErrorKind, Read, Write};
@@ -138,6 +139,103 @@ fn scripts(rt: HostRuntime) -> Result<(), Fail> {
     assert_eq!(rt; no_text.as_str(), "2 utf8");
     let no_text_after = judged(rt.alloc(), b"warm 2 16 4 1\nend\n\xff")?;
     assert_eq!(rt; no_text_after.as_str(), "ok");
+    Ok(())
+}
+
+// `ok` of a lock script, else the line and the kind of the fault.
+fn locks_judged(alloc: Global, bytes: &[u8]) -> Result<String, Fail> {
+    match read_locks(alloc, bytes) {
+        Ok(_) => Ok(String::from_str(alloc, "ok")?),
+        Err(ScriptEnd::Fault(fault)) => {
+            Ok(format!(in alloc; "{} {}", fault.line, fault.kind.word())?)
+        }
+        Err(ScriptEnd::Memory) => Err("memory".into()),
+    }
+}
+
+#[test]
+fn lock_scripts(rt: HostRuntime) -> Result<(), Fail> {
+    for (text, wanted) in [
+        ("end\n", "ok"),
+        ("end", "ok"),
+        ("\n# one\nask 0 ack CR\n\nend\nfrob", "ok"),
+        ("", "1 no-end"),
+        ("#\n", "2 no-end"),
+        ("die 3\n", "2 no-end"),
+        ("end x\n", "1 count"),
+        ("end ", "1 count"),
+        ("end\r\n", "1 word"),
+        ("warm 2 16 4 1\nend\n", "1 word"),
+    ] {
+        let told = locks_judged(rt.alloc(), text.as_bytes())?;
+        assert_eq!(rt; told.as_str(), wanted, "at {text:?}");
+    }
+    for (line, wanted) in [
+        ("ask 0 bitmap000 NL", "ok"),
+        ("now 15 bitmap015 CR", "ok"),
+        ("convert 9 token CW", "ok"),
+        ("up 1 message PR", "ok"),
+        ("ask 1 ack PW", "ok"),
+        ("ask 1 no-new-dev EX", "ok"),
+        ("grant resync", "ok"),
+        ("release 1 bitmap009", "ok"),
+        ("die 0", "ok"),
+        ("calls 0 ack", "ok"),
+        ("Ask 0 ack CR", "2 word"),
+        ("w 0 5 -", "2 word"),
+        ("check", "2 word"),
+        ("ask 0 bitmap016 CR", "2 word"),
+        ("ask 0 bitmap16 CR", "2 word"),
+        ("ask 0 Ack CR", "2 word"),
+        ("ask 0 ack cr", "2 word"),
+        ("ask 300 ack XX", "2 word"),
+        ("ask 300 frob", "2 word"),
+        ("ask 0 ack XX EX", "2 word"),
+        ("ask 0  ack EX", "2 word"),
+        ("grant frob ack", "2 word"),
+        ("grant ", "2 word"),
+        ("release 0 frob 1", "2 word"),
+        ("calls x 5", "2 word"),
+        ("ask", "2 count"),
+        ("ask x", "2 count"),
+        ("ask 300 ack", "2 count"),
+        ("ask 0 ack EX EX", "2 count"),
+        ("grant", "2 count"),
+        ("grant ack ack", "2 count"),
+        ("release 16", "2 count"),
+        ("die", "2 count"),
+        ("die 0 0", "2 count"),
+        ("calls 16 ack ack", "2 count"),
+        ("ask 300 ack EX", "2 number"),
+        ("ask 256 ack EX", "2 number"),
+        ("ask 00 ack EX", "2 number"),
+        ("release x ack", "2 number"),
+        ("die -1", "2 number"),
+        ("die ", "2 number"),
+        ("ask 255 ack EX", "2 range"),
+        ("now 16 ack EX", "2 range"),
+        ("release 16 ack", "2 range"),
+        ("die 16", "2 range"),
+        ("calls 16 ack", "2 range"),
+    ] {
+        let text = format!(in rt.alloc(); "#\n{line}\nend\n")?;
+        let told = locks_judged(rt.alloc(), text.as_bytes())?;
+        assert_eq!(rt; told.as_str(), wanted, "at {line:?}");
+    }
+    let no_text = locks_judged(rt.alloc(), b"#\xff\nfrob\n")?;
+    assert_eq!(rt; no_text.as_str(), "1 utf8");
+    let script = read_locks(rt.alloc(), b"up 7 message PR\ndie 9\nend\n")
+        .ok()
+        .ok_or("a script")?;
+    let wanted = [
+        LockLine::Up {
+            node: 7,
+            res: Res::Message,
+            mode: Mode::PR,
+        },
+        LockLine::Die(9),
+    ];
+    assert_eq!(rt; script.lines(), wanted.as_slice());
     Ok(())
 }
 
@@ -283,6 +381,8 @@ fn words(rt: HostRuntime) -> Result<(), Fail> {
     assert_eq!(rt; read_words(&words), Ok(Command::Play));
     words.push(String::from_str(rt.alloc(), "play")?)?;
     assert_eq!(rt; read_words(&words), Err(WordsEnd::Usage));
+    let words = vec![in rt.alloc(); String::from_str(rt.alloc(), "locks")?]?;
+    assert_eq!(rt; read_words(&words), Ok(Command::Locks));
     let words = vec![in rt.alloc(); String::from_str(rt.alloc(), "frob")?]?;
     assert_eq!(rt; read_words(&words), Err(WordsEnd::Usage));
     assert_eq!(rt; FaultKind::NoArray.word(), "no-array");
