@@ -1,6 +1,6 @@
 //! Message rounds: how a node of the cluster says something to all others.
 //!
-//! After the Linux kernel's `Documentation/driver-api/md/md-cluster.rst`, section 3 ("Communication").
+//! After the Linux kernel's `Documentation/driver-api/md/md-cluster.rst` ("Communication").
 //! No call takes memory.
 #![tactic(auto)]
 

@@ -1,7 +1,7 @@
 //! The bitmap of a node: which chunks its write-intent bitmap has set, which are to be copied, how
 //! many live writes the node has in each, and what surely stands of it in the node's slot on the legs.
 //!
-//! After Linux's `Documentation/driver-api/md/md-cluster.rst`, section 3, and `drivers/md/md-bitmap.h`.
+//! After Linux's `Documentation/driver-api/md/md-cluster.rst` and `drivers/md/md-bitmap.h`.
 #![tactic(auto)]
 
 mod cells;
