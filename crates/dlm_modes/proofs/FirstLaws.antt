@@ -1,6 +1,7 @@
 -- The laws of the first number that passes, and of loops that seek it.
 use Rattle.std.proofs.lemmas.Bool.Decides.{nat_tests, eqb_tells}
-use Rattle.std.proofs.Common.{◌⊎◌, inl, inr, ◌≡◌, ℕ, zero, suc, ◌+◌, ◌-◌, ◌<◌, ◌≤◌, Bool, true, false, Some, None, refl, ap, subst, arith, if◌then◌else◌}
+use Rattle.std.proofs.Common.{◌⊎◌, inl, inr, ◌≡◌, ℕ, zero, suc, ◌+◌, ◌-◌, ◌<◌, ◌≤◌, Bool, true, false, Option, Some, None, refl, ap, subst, arith, if◌then◌else◌}
+use Rattle.std.specs.Prelude.{is_some}
 use Rattle.dlm_modes.specs.First.{first_such}
 
 first_such-suc : (p : ℕ → Bool) (i n : ℕ) → first_such p i (suc n) ≡ (if p i then Some i else first_such p (i + 1) n)
@@ -59,3 +60,20 @@ first_such_none p i (suc n) is k le lt =
       | true ↦ λ t is. cc
       | false ↦ λ t is. elim (le_cases i k le) [ inl same ↦ subst (λ j. p j ≡ false) same t | inr above ↦ first_such_none p (i + 1) n is k (omega arith) (omega arith) ]
     ] refl is
+
+some_of : (p : ℕ → Bool) (i n k : ℕ) (x : Option ℕ) → first_such p i n ≡ x → i ≤ k → k < i + n → p k ≡ true → is_some x ≡ true
+some_of p i n k None is le lt passes = let fails = first_such_none p i n is k le lt in cc
+some_of p i n k (Some j) is le lt passes = refl
+
+-- where one passes, one is found
+pub first_such_has : (p : ℕ → Bool) (i n k : ℕ) → i ≤ k → k < i + n → p k ≡ true → is_some (first_such p i n) ≡ true
+first_such_has p i n k le lt passes = some_of p i n k (first_such p i n) refl le lt passes
+
+-- tests that agree find the same
+pub first_such_same : (p q : ℕ → Bool) (i n : ℕ) → ((k : ℕ) → i ≤ k → k < i + n → p k ≡ q k) → first_such p i n ≡ first_such q i n
+unfolding first_such
+first_such_same p q i zero same = refl
+first_such_same p q i (suc n) same =
+    let here : p i ≡ q i = same i (omega arith) (omega arith) in
+    let rest : first_such p (i + 1) n ≡ first_such q (i + 1) n = first_such_same p q (i + 1) n (λ k le lt. same k (omega arith) (omega arith)) in
+    rw (here, rest) refl

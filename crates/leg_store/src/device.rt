@@ -1,4 +1,4 @@
-ghost use Rattle.std.specs.Prelude.{◌≡◌, ◌<◌, List, ℕ, Option, MatchResult, IfOk};
+ghost use Rattle.std.specs.Prelude.{◌≡◌, ◌<◌, List, ℕ, Option, MatchResult, IfOk, true};
 ghost use Rattle.mdc_types.specs.declared.numbers.Sector.{Sector};
 ghost use Rattle.mdc_types.specs.Faults.{HasCause};
 ghost use Rattle.leg_store.specs.Leg.{Gives, put, LeftOldOrNew, HasLength};
@@ -29,7 +29,7 @@ pub trait LegDev {
         ensures value { IfOk result (λ v. Gives (contents self.old) at v) }
         ensures contents { contents self.new ≡ contents self.old }
         ensures size { size self.new ≡ size self.old }
-        ensures cause { HasCause (faults self.old) (faults self.new) result };
+        ensures cause { HasCause (λ e. true) (faults self.old) (faults self.new) result };
 
     /// Writes a sector. A write that fails leaves the old sector or the new one.
     fn write(&mut self, at: u32, value: &Sector) -> Result<(), Failed>
@@ -38,7 +38,7 @@ pub trait LegDev {
             (λ _. contents self.new ≡ put (contents self.old) at value.now)
             (λ _. LeftOldOrNew (contents self.old) at value.now (contents self.new)) }
         ensures size { size self.new ≡ size self.old }
-        ensures cause { HasCause (faults self.old) (faults self.new) result };
+        ensures cause { HasCause (λ e. true) (faults self.old) (faults self.new) result };
 
     /// What is told has the leg's length.
     ghost told_length: { (leg : Self) → HasLength (contents leg) (size leg) };

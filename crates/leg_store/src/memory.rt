@@ -1,4 +1,4 @@
-ghost use Rattle.std.specs.Prelude.{◌≡◌, ◌<◌, ◌≤◌, ◌^◌, [], length, Some, None, vec_len, slice_get, is_none, is_ok, IsOk, IsSome, IfOk, MatchResult, refl};
+ghost use Rattle.std.specs.Prelude.{◌≡◌, ◌<◌, ◌≤◌, ◌^◌, [], length, Some, None, vec_len, slice_get, is_none, is_ok, IsOk, IsSome, IfOk, MatchResult, refl, true};
 ghost use Rattle.mdc_types.specs.Faults.{HasCause, Rose};
 ghost use Rattle.leg_store.specs.Leg.{Gives, put, LeftOldOrNew};
 ghost use Rattle.leg_store.specs.Memory.{told, entry_for, next_failure, after_read, after_write, with_sector};
@@ -128,7 +128,7 @@ impl LegDev for MemLeg {
         ensures value { IfOk result (λ v. Gives (told self.old) at v) }
         ensures contents { told self.new ≡ told self.old }
         ensures size { length self.new.sectors ≡ length self.old.sectors }
-        ensures cause { HasCause self.old.faults self.new.faults result }
+        ensures cause { HasCause (λ e. true) self.old.faults self.new.faults result }
     {
         if self.failure().is_some() {
             return Err(Failed);
@@ -148,7 +148,7 @@ impl LegDev for MemLeg {
             (λ _. told self.new ≡ put (told self.old) at value.now)
             (λ _. LeftOldOrNew (told self.old) at value.now (told self.new)) }
         ensures size { length self.new.sectors ≡ length self.old.sectors }
-        ensures cause { HasCause self.old.faults self.new.faults result }
+        ensures cause { HasCause (λ e. true) self.old.faults self.new.faults result }
     {
         match self.failure() {
             None => {

@@ -1,4 +1,4 @@
-ghost use Rattle.std.specs.Prelude.{◌≡◌, ℕ, length, slice_set, ◌<◌, ◌==◌, not, ◌&&◌, ◌||◌};
+ghost use Rattle.std.specs.Prelude.{◌≡◌, length, slice_set, ◌<◌};
 ghost use Rattle.leg_store.specs.Paths.{path_open, all_open, cut_path, mend_path};
 
 use mdc_types::{LegId, NodeId};
@@ -6,7 +6,7 @@ use std::marker::Model;
 
 /// Which nodes have a path to which legs: sixteen nodes, eight legs.
 ///
-/// Contracts see it as a flag for each node and leg, which is set where the path is cut.
+/// Contracts see it as `path_open`: whether the path from a node to a leg is open.
 #[derive(Drop)]
 pub struct PathTable {
     cut: [[bool; 8]; 16],
@@ -31,7 +31,7 @@ fn set_flag(flags: &mut [bool; 8], l: LegId, flag: bool)
 impl PathTable {
     /// The table of all paths, which are open.
     pub fn new() -> PathTable
-        ensures { result ≡ all_open }
+        ensures { path_open result ≡ all_open }
     {
         PathTable {
             cut: [[false; 8]; 16],
@@ -42,8 +42,7 @@ impl PathTable {
     pub fn cut(&mut self, n: NodeId, l: LegId)
         requires node { n < 16 }
         requires leg { l < 8 }
-        ensures paths { self.new ≡ cut_path self.old n l }
-        ensures each { (m k : ℕ) → path_open self.new m k ≡ (path_open self.old m k && not (m == n && k == l)) }
+        ensures { path_open self.new ≡ cut_path (path_open self.old) n l }
     {
         set_flag(&mut self.cut[n as usize], l, true);
     }
@@ -52,8 +51,7 @@ impl PathTable {
     pub fn mend(&mut self, n: NodeId, l: LegId)
         requires node { n < 16 }
         requires leg { l < 8 }
-        ensures paths { self.new ≡ mend_path self.old n l }
-        ensures each { (m k : ℕ) → path_open self.new m k ≡ (path_open self.old m k || (m == n && k == l)) }
+        ensures { path_open self.new ≡ mend_path (path_open self.old) n l }
     {
         set_flag(&mut self.cut[n as usize], l, false);
     }

@@ -53,9 +53,12 @@ pub record IsGeometry (g : Sizes) : Type 0 where
 abbrev pub nodes_of : Sizes → ℕ
 nodes_of g = if g.second then 16 else 8
 
--- where data sector 0 lies on a leg
+-- where data sector 0 lies on a leg: by whether the image version is 2, and of an array
+abbrev pub data_offset_of : Bool → ℕ
+data_offset_of second = if second then 272 else 80
+
 abbrev pub data_offset : Sizes → ℕ
-data_offset g = if g.second then 272 else 80
+data_offset g = data_offset_of g.second
 
 -- the sectors of a leg
 abbrev pub length_of : Sizes → ℕ
@@ -76,6 +79,10 @@ page_of c = if nat_lt c 2048 then 0 else 1 + (c - 2048) / 4096
 -- pages of a slot in use
 abbrev pub pages_of : Sizes → ℕ
 pages_of g = if nat_le (chunks_of g) 2048 then 1 else 1 + parts_of (chunks_of g - 2048) 4096
+
+-- the chunk of a sector
+abbrev pub chunk_of : Sizes → ℕ → ℕ
+chunk_of g s = s / g.chunk
 
 -- the first sector of a chunk, and the first past it
 abbrev pub chunk_start : Sizes → ℕ → ℕ

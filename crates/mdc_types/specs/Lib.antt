@@ -1,6 +1,9 @@
 pub mod Bits
 pub mod Faults
 pub mod Geometry
+pub mod Names
+pub mod Pages
 pub mod Ranges
 pub mod Resources
 pub mod Roles
+pub mod Sectors

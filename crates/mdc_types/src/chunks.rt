@@ -76,6 +76,21 @@ impl ChunkSet {
         self.flags.len() as u32
     }
 
+    /// Puts all chunks in.
+    pub fn fill(&mut self)
+        ensures { self.new ≡ replicate (length self.old) true }
+    {
+        self.flags.fill(true);
+    }
+
+    /// Becomes equal to another set of the same array.
+    pub fn copy_from(&mut self, other: &ChunkSet)
+        requires { length other.now ≡ length self.old }
+        ensures { self.new ≡ other.now }
+    {
+        self.flags.copy_from_slice(&other.flags);
+    }
+
     /// Takes all chunks out.
     pub fn clear(&mut self)
         ensures { self.new ≡ replicate (length self.old) false }
@@ -102,6 +117,11 @@ mod tests {
         set.remove(3);
         assert!(rt; set.has(9) && !set.has(3));
         assert_eq!(rt; set.first_from(0), Some(9));
+        let mut other = ChunkSet::new(rt.alloc(), 10)?;
+        other.fill();
+        assert!(rt; other.has(0) && other.has(9) && other.chunks() == set.chunks());
+        other.copy_from(&set);
+        assert!(rt; other.has(9) && !other.has(3));
         set.clear();
         assert_eq!(rt; set.first_from(0), None);
         Ok(())

@@ -1,3 +1,7 @@
+ghost use Rattle.std.specs.Prelude.{◌≡◌};
+ghost use Rattle.mdc_types.specs.declared.events.Event.TheVariants.{Grant};
+ghost use Rattle.mdc_types.specs.declared.resources.Res.TheVariants.{Token};
+
 use crate::{ChunkNo, LegId, NodeId, PageNo, Range, ReadNo, Res, Sector, SectorNo, WriteNo};
 
 /// What a round is to say.
@@ -110,6 +114,9 @@ pub enum Event {
 }
 
 impl Default for Event {
+    ghost is_default = { λ e. e ≡ Grant Token };
+
+    /// `grant token`, which fills a place that no event has yet.
     fn default() -> Event {
         Event::Grant(Res::Token)
     }

@@ -1,5 +1,5 @@
-ghost use Rattle.std.specs.Prelude.{◌≡◌, ◌<◌, ◌≤◌, ◌+◌, ◌/◌, true, false, if◌then◌else◌};
-ghost use Rattle.mdc_types.specs.Geometry.{IsGeometry, geometry_of, chunk_size_test, chunks_of, pages_of, page_of, chunk_start, chunk_end, nodes_of, data_offset, slot_pages, page_sector, length_of, most_chunks};
+ghost use Rattle.std.specs.Prelude.{◌≡◌, ◌<◌, ◌≤◌, ◌+◌, true, false, if◌then◌else◌};
+ghost use Rattle.mdc_types.specs.Geometry.{IsGeometry, geometry_of, chunk_size_test, chunks_of, pages_of, page_of, chunk_of, chunk_start, chunk_end, nodes_of, data_offset, slot_pages, page_sector, length_of, most_chunks};
 
 use crate::{ChunkNo, NodeId, PageNo, Range, SectorNo};
 use std::marker::Model;
@@ -155,7 +155,7 @@ impl Geometry {
 
     /// The chunk of a sector.
     pub fn chunk_of(&self, s: SectorNo) -> ChunkNo
-        ensures { result ≡ s / self.now.chunk }
+        ensures { result ≡ chunk_of self.now s }
     {
         s / self.chunk
     }

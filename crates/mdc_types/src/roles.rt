@@ -1,7 +1,9 @@
-ghost use Rattle.std.specs.Prelude.{◌≡◌, ◌<◌};
-ghost use Rattle.mdc_types.specs.Roles.{role_of, role_code, role_of_code, state_word};
+ghost use Rattle.std.specs.Prelude.{◌≡◌, ◌<◌, ℕ};
+ghost use Rattle.mdc_types.specs.Bits.{has_bit};
+ghost use Rattle.mdc_types.specs.Roles.{role_of, role_code, role_of_code, is_role, is_working, is_rebuilding, is_faulty, is_spare, legs_with, state_word};
 
 use crate::LegId;
+use crate::bits::with_leg;
 use crate::refusals::Word;
 
 /// What a leg is in the mirror.
@@ -46,6 +48,17 @@ impl Role {
             _ => None,
         }
     }
+
+    fn is(&self, role: Role) -> bool
+        ensures { result ≡ is_role role self.now }
+    {
+        match role {
+            Role::Working => matches!(self, Role::Working),
+            Role::Rebuilding => matches!(self, Role::Rebuilding),
+            Role::Faulty => matches!(self, Role::Faulty),
+            Role::Spare => matches!(self, Role::Spare),
+        }
+    }
 }
 
 /// The roles of the eight legs. A leg that isn't there is a spare.
@@ -61,6 +74,46 @@ impl Roles {
         ensures { result ≡ role_of self.now l }
     {
         self.legs[l as usize]
+    }
+
+    fn legs_with(&self, role: Role) -> u8
+        ensures { (l : ℕ) → has_bit result l ≡ legs_with (is_role role) self.now l }
+    {
+        let mut set = 0;
+        for l in 0..8 {
+            if self.of(l).is(role) {
+                set = with_leg(set, l);
+            }
+        }
+        set
+    }
+
+    /// The set of the working legs, one bit for each.
+    pub fn working(&self) -> u8
+        ensures { (l : ℕ) → has_bit result l ≡ legs_with is_working self.now l }
+    {
+        self.legs_with(Role::Working)
+    }
+
+    /// The set of the rebuilding legs, one bit for each.
+    pub fn rebuilding(&self) -> u8
+        ensures { (l : ℕ) → has_bit result l ≡ legs_with is_rebuilding self.now l }
+    {
+        self.legs_with(Role::Rebuilding)
+    }
+
+    /// The set of the faulty legs, one bit for each.
+    pub fn faulty(&self) -> u8
+        ensures { (l : ℕ) → has_bit result l ≡ legs_with is_faulty self.now l }
+    {
+        self.legs_with(Role::Faulty)
+    }
+
+    /// The set of the spare legs among the eight, one bit for each.
+    pub fn spare(&self) -> u8
+        ensures { (l : ℕ) → has_bit result l ≡ legs_with is_spare self.now l }
+    {
+        self.legs_with(Role::Spare)
     }
 }
 
@@ -90,6 +143,31 @@ impl NodeState {
 #[cfg(test)]
 mod tests {
     use super::*;
+
+    #[test]
+    fn legs_by_role(rt: HostRuntime) {
+        let roles = Roles {
+            legs: [
+                Role::Working,
+                Role::Rebuilding,
+                Role::Faulty,
+                Role::Spare,
+                Role::Working,
+                Role::Faulty,
+                Role::Rebuilding,
+                Role::Spare,
+            ],
+        };
+        assert_eq!(rt;
+            [
+                roles.working(),
+                roles.rebuilding(),
+                roles.faulty(),
+                roles.spare()
+            ],
+            [0b0001_0001, 0b0100_0010, 0b0010_0100, 0b1000_1000]
+        );
+    }
 
     #[test]
     fn numbers_of_roles(rt: HostRuntime) {
