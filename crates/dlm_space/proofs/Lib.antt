@@ -6,4 +6,6 @@ pub mod Runs
 mod Changes
 pub mod Told
 pub mod Steps
+pub mod Releasing
+pub mod Leading
 mod Examples

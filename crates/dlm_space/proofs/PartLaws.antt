@@ -5,7 +5,7 @@ use Rattle.std.proofs.lemmas.Bool.Decides.{nat_tests}
 use Rattle.std.proofs.Math.Path.{fun_ext}
 use Rattle.dlm_modes.specs.declared.mode.Mode.{Mode}
 use Rattle.dlm_modes.specs.Points.{with_at}
-use Rattle.dlm_space.specs.Locks.{Lock, new_lock, new_locks, zero_block, died, all_died}
+use Rattle.dlm_space.specs.Locks.{Lock, new_lock, new_locks, zero_block, let_go, all_let_go, died, all_died}
 use Rattle.dlm_space.specs.Parts.{Part, lock_of, locks_of, no_part}
 use Rattle.dlm_space.specs.declared.ask.Ask.{Ask}
 
@@ -44,32 +44,41 @@ locks_of-call (Ok x) parts r d after f lt e =
     locks_of-set parts r after lt ∙ ap (with_at (locks_of parts) r) (e ∙ ap (λ p. f (lock_of p)) (get_or_default parts r d no_part lt))
 locks_of-call (Err x) parts r d after f lt e = tt
 
--- A node dies at one part after the other.
+-- One change is made to one part after the other.
 
-one_more : {A : Type 0} (r k : ℕ) (now new changed dead old : A) → new ≡ (if r == k then changed else now) → (r ≡ k → changed ≡ dead) → now ≡ (if nat_lt r k then dead else old) → new ≡ (if nat_lt r (k + 1) then dead else old)
-one_more r k now new changed dead old e g f = grind (arith, nat_tests)
+one_more : {A : Type 0} (r k : ℕ) (now new changed done old : A) → new ≡ (if r == k then changed else now) → (r ≡ k → changed ≡ done) → now ≡ (if nat_lt r k then done else old) → new ≡ (if nat_lt r (k + 1) then done else old)
+one_more r k now new changed done old e g f = grind (arith, nat_tests)
 
-all_so_far : {A : Type 0} (r n : ℕ) (now dead old : A) → now ≡ (if nat_lt r n then dead else old) → (n ≤ r → dead ≡ old) → now ≡ dead
-all_so_far r n now dead old e f = grind (arith, nat_tests)
+all_so_far : {A : Type 0} (r n : ℕ) (now done old : A) → now ≡ (if nat_lt r n then done else old) → (n ≤ r → done ≡ old) → now ≡ done
+all_so_far r n now done old e f = grind (arith, nat_tests)
 
-here : {A : Type 0} (k n : ℕ) (now dead old : A) → n ≡ k → now ≡ (if nat_lt n k then dead else old) → now ≡ old
-here k n now dead old same e = grind (arith, nat_tests)
+here : {A : Type 0} (k n : ℕ) (now done old : A) → n ≡ k → now ≡ (if nat_lt n k then done else old) → now ≡ old
+here k n now done old same e = grind (arith, nat_tests)
 
-pub locks_of-one_more : (old now : List Part) (n k : ℕ) (d after : Part) → k < length now → ((r : ℕ) → locks_of now r ≡ (if nat_lt r k then died (locks_of old r) n else locks_of old r)) → lock_of after ≡ died (lock_of (get_or now k d)) n → (r : ℕ) → locks_of (set now k after) r ≡ (if nat_lt r (k + 1) then died (locks_of old r) n else locks_of old r)
-locks_of-one_more old now n k d after lt so e r =
-    let dead : lock_of after ≡ died (locks_of old k) n = e ∙ ap (λ p. died (lock_of p) n) (get_or_default now k d no_part lt) ∙ ap (λ lock. died lock n) (here k k _ _ _ refl (so k)) in
-    one_more r k _ _ _ _ _ (ap (λ f. f r) (locks_of-set now k after lt)) (λ same. dead ∙ ap (λ m. died (locks_of old m) n) (sym same)) (so r)
+pub locks_of-one_more : (f : Lock → Lock) (old now : List Part) (k : ℕ) (d after : Part) → k < length now → ((r : ℕ) → locks_of now r ≡ (if nat_lt r k then f (locks_of old r) else locks_of old r)) → lock_of after ≡ f (lock_of (get_or now k d)) → (r : ℕ) → locks_of (set now k after) r ≡ (if nat_lt r (k + 1) then f (locks_of old r) else locks_of old r)
+locks_of-one_more f old now k d after lt so e r =
+    let done : lock_of after ≡ f (locks_of old k) = e ∙ ap (λ p. f (lock_of p)) (get_or_default now k d no_part lt) ∙ ap f (here k k _ _ _ refl (so k)) in
+    one_more r k _ _ _ _ _ (ap (λ g. g r) (locks_of-set now k after lt)) (λ same. done ∙ ap (λ m. f (locks_of old m)) (sym same)) (so r)
 
--- what nobody holds is the same after a death
-none_dies : (n m : ℕ) → (if m == n then None else get_or (no_part.held) m None) ≡ get_or (no_part.held) m None
-none_dies n m = grind arith
+locks_of-all : (f : Lock → Lock) (old now : List Part) → f (lock_of no_part) ≡ lock_of no_part → ((r : ℕ) → locks_of now r ≡ (if nat_lt r (length old) then f (locks_of old r) else locks_of old r)) → locks_of now ≡ (λ r. f (locks_of old r))
+locks_of-all f old now none so =
+    fun_ext (λ r. all_so_far r (length old) _ _ _ (so r) (λ le. let e : get_or old r no_part ≡ no_part = get_or_past old r no_part le in rw e none))
+
+-- what nobody holds is the same when a node dies, and when it lets go
+none_leaves : (n m : ℕ) → (if m == n then None else get_or (no_part.held) m None) ≡ get_or (no_part.held) m None
+none_leaves n m = grind arith
 
 nothing_dies : (n : ℕ) → died (lock_of no_part) n ≡ lock_of no_part
-nothing_dies n = λ i. record { held = λ m. none_dies n m i; conversions = []; requests = []; block = zero_block; valid = true }
+nothing_dies n = λ i. record { held = λ m. none_leaves n m i; conversions = []; requests = []; block = zero_block; valid = true }
+
+nothing_goes : (n : ℕ) → let_go (lock_of no_part) n ≡ lock_of no_part
+nothing_goes n = λ i. record { held = λ m. none_leaves n m i; conversions = []; requests = []; block = zero_block; valid = true }
 
 pub locks_of-all_died : (old now : List Part) (n : ℕ) → ((r : ℕ) → locks_of now r ≡ (if nat_lt r (length old) then died (locks_of old r) n else locks_of old r)) → locks_of now ≡ all_died (locks_of old) n
-locks_of-all_died old now n so =
-    fun_ext (λ r. all_so_far r (length old) _ _ _ (so r) (λ le. let e : get_or old r no_part ≡ no_part = get_or_past old r no_part le in rw e (nothing_dies n)))
+locks_of-all_died old now n so = locks_of-all (λ lock. died lock n) old now (nothing_dies n) so
+
+pub locks_of-all_let_go : (old now : List Part) (n : ℕ) → ((r : ℕ) → locks_of now r ≡ (if nat_lt r (length old) then let_go (locks_of old r) n else locks_of old r)) → locks_of now ≡ all_let_go (locks_of old) n
+locks_of-all_let_go old now n so = locks_of-all (λ lock. let_go lock n) old now (nothing_goes n) so
 
 in_range : {A : Type 0} (r n : ℕ) (a b : A) → (r < n → a ≡ b) → (n ≤ r → a ≡ b) → a ≡ b
 in_range r n a b p q = grind (arith, nat_tests)

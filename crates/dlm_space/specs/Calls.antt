@@ -58,11 +58,24 @@ pub record IsAccepted (locks : ℕ → Lock) (call : Call) : Type 0 where
   pub accepted : refusal locks call ≡ None
   pub answers : Answers locks call
 
+-- the locks to which the calls lead from these
+abbrev pub locks_from : (ℕ → Lock) → List Call → ℕ → Lock
+locks_from locks [] = locks
+locks_from locks (call ∷ past) = effect (locks_from locks past) call
+
+-- each call is accepted in its turn, from these locks on
+abbrev pub AreAcceptedFrom : (ℕ → Lock) → List Call → Type 0
+AreAcceptedFrom locks [] = Unit {0}
+AreAcceptedFrom locks (call ∷ past) = AreAcceptedFrom locks past × IsAccepted (locks_from locks past) call
+
+-- the calls are accepted in their turn from these locks on, and lead to those
+pub record Leads (locks : ℕ → Lock) (past : List Call) (after : ℕ → Lock) : Type 0 where
+  pub accepted : AreAcceptedFrom locks past
+  pub leads : locks_from locks past ≡ after
+
 abbrev pub locks_after : List Call → ℕ → Lock
-locks_after [] = new_locks
-locks_after (call ∷ past) = effect (locks_after past) call
+locks_after past = locks_from new_locks past
 
 -- each call was accepted in its turn
 abbrev pub AreAccepted : List Call → Type 0
-AreAccepted [] = Unit {0}
-AreAccepted (call ∷ past) = AreAccepted past × IsAccepted (locks_after past) call
+AreAccepted past = AreAcceptedFrom new_locks past

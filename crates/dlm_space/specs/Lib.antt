@@ -4,3 +4,4 @@ pub mod Parts
 pub mod Calls
 pub mod Sound
 pub mod Orderly
+pub mod Releasing

@@ -161,6 +161,10 @@ died lock n = record (let_go lock n) {
 abbrev pub all_died : (ℕ → Lock) → ℕ → ℕ → Lock
 all_died locks n r = died (locks r) n
 
+-- the node lets go of all that it holds, without a value, and its requests stay
+abbrev pub all_let_go : (ℕ → Lock) → ℕ → ℕ → Lock
+all_let_go locks n r = let_go (locks r) n
+
 -- Answers.
 
 -- the block, where it is valid

@@ -1,5 +1,6 @@
 ghost use Rattle.dlm_space.specs.Sound.{CallsAreSound};
 ghost use Rattle.dlm_space.specs.Orderly.{LocksAreOrderly};
+ghost use Rattle.dlm_space.specs.Releasing.{LettingGoReleases};
 
 /// After every list of accepted calls, a node holds what the last grant or conversion to it gave,
 /// until its release or death; any two holders of a resource agree; those wait that asked and were not
@@ -17,4 +18,10 @@ pub fn calls_are_sound()
 /// request waits holds nothing.
 pub fn locks_are_orderly()
     ensures { LocksAreOrderly }
+{}
+
+/// From orderly locks on, the releases without a value of all that a node holds are accepted one after
+/// another, and lead to what `release_all` leaves.
+pub fn letting_go_releases()
+    ensures { LettingGoReleases }
 {}

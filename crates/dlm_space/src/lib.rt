@@ -16,5 +16,5 @@ mod tests;
 
 pub use answers::{Converted, Granted, LockError};
 pub use ask::Ask;
-pub use laws::{calls_are_sound, locks_are_orderly};
+pub use laws::{calls_are_sound, letting_go_releases, locks_are_orderly};
 pub use space::Space;

@@ -348,7 +348,7 @@ impl Resource {
     }
 
     #[tactic(auto, using(crate::proofs::QueueLaws::queue_without))]
-    fn let_go(&mut self, node: u8)
+    pub fn let_go(&mut self, node: u8)
         requires { node < 16 }
         ensures { lock_of self.new ≡ let_go (lock_of self.old) node }
     {

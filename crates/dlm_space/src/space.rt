@@ -3,7 +3,7 @@ ghost use Rattle.std.specs.Option.{option_map};
 ghost use Rattle.std.specs.Result.{result_err};
 ghost use Rattle.dlm_space.specs.Queues.{head};
 ghost use Rattle.dlm_modes.specs.Points.{with_at};
-ghost use Rattle.dlm_space.specs.Locks.{new_locks, ask_refusal, ask_now_refusal, convert_refusal, convert_now_refusal, grant_refusal, release_refusal, asked, asked_now, converted, converted_now, granted, released, all_died, valid_block, convert_answer, grant_answer, caller};
+ghost use Rattle.dlm_space.specs.Locks.{new_locks, ask_refusal, ask_now_refusal, convert_refusal, convert_now_refusal, grant_refusal, release_refusal, asked, asked_now, converted, converted_now, granted, released, all_let_go, all_died, valid_block, convert_answer, grant_answer, caller};
 ghost use Rattle.dlm_space.specs.Parts.{locks_of};
 
 use crate::resource::Resource;
@@ -39,6 +39,15 @@ fn leave_all(resources: &mut [Resource], node: u8)
 {
     for resource in resources {
         resource.die(node);
+    }
+}
+
+fn let_go_all(resources: &mut [Resource], node: u8)
+    requires { node < 16 }
+    ensures { locks_of resources.new ≡ all_let_go (locks_of resources.old) node }
+{
+    for resource in resources {
+        resource.let_go(node);
     }
 }
 
@@ -134,6 +143,15 @@ impl Space {
         ensures err { OnErr result (self.new ≡ self.old) }
     {
         self.resources[res].release(node, value)
+    }
+
+    /// The node lets go of all that it holds, and its waiting conversions are dropped. No value is
+    /// written, so each block stays as it is, valid or not. The node's requests stay.
+    pub fn release_all(&mut self, node: u8)
+        requires { node < 16 }
+        ensures { locks_of self.new ≡ all_let_go (locks_of self.old) node }
+    {
+        let_go_all(&mut self.resources, node);
     }
 
     /// The node dies: it holds and asks nothing any more, and each block whose resource it held in PW

@@ -9,6 +9,7 @@ enum Call {
     ConvertNow(u8, usize, Mode),
     Grant(usize),
     Release(u8, usize, Option<u8>),
+    ReleaseAll(u8),
     Die(u8),
     Calls(u8, usize),
     Holder(u8, usize),
@@ -79,6 +80,10 @@ fn apply(space: &mut Space, call: Call) -> Answer {
         Call::Grant(r) if r < 21 => granted(space.grant(r)),
         Call::Release(n, r, value) if n < 16 && r < 21 => {
             done(space.release(n, r, value.map(full)))
+        }
+        Call::ReleaseAll(n) if n < 16 => {
+            space.release_all(n);
+            Answer::Done
         }
         Call::Die(n) if n < 16 => {
             space.die(n);
@@ -203,6 +208,25 @@ const BLOCKS: [(Call, Answer); 17] = [
     (Call::Block(ACK), Answer::Has(0, true)),
 ];
 
+// A node lets go of all: its conversion is dropped, its request stays, and the block stays valid.
+const LETS_GO: [(Call, Answer); 12] = [
+    (Call::AskNow(0, MESSAGE, Mode::EX), Answer::Gave(Some(0))),
+    (Call::AskNow(0, ACK, Mode::CR), Answer::Gave(Some(0))),
+    (Call::AskNow(1, ACK, Mode::CR), Answer::Gave(Some(0))),
+    (
+        Call::Convert(0, ACK, Mode::EX, None),
+        Answer::Converted(Converted::Queued),
+    ),
+    (Call::Ask(0, 20, Mode::PR), Answer::Done),
+    (Call::ReleaseAll(0), Answer::Done),
+    (Call::Holder(0, MESSAGE), Answer::Holds(None)),
+    (Call::Block(MESSAGE), Answer::Has(0, true)),
+    (Call::Head(ACK), Answer::Heads(None)),
+    (Call::Holder(1, ACK), Answer::Holds(Some(Mode::CR))),
+    (Call::Holder(0, ACK), Answer::Holds(None)),
+    (Call::Head(20), Answer::Heads(Some((0, Mode::PR)))),
+];
+
 // Conversions go first, and a release drops them; NL is held.
 const QUEUES: [(Call, Answer); 16] = [
     (Call::AskNow(0, 0, Mode::NL), Answer::Gave(Some(0))),
@@ -237,7 +261,7 @@ const QUEUES: [(Call, Answer); 16] = [
 
 #[test]
 fn scripts(rt: HostRuntime) {
-    let scripts: [&[(Call, Answer)]; 4] = [&ROUND, &SENDER, &BLOCKS, &QUEUES];
+    let scripts: [&[(Call, Answer)]; 5] = [&ROUND, &SENDER, &BLOCKS, &LETS_GO, &QUEUES];
     for (i, script) in scripts.iter().enumerate() {
         let mut space = Space::new();
         for (j, (call, want)) in script.iter().enumerate() {

@@ -6,6 +6,7 @@
 
 mod calls;
 mod errors;
+mod laws;
 mod phases;
 mod receiver;
 mod sender;
@@ -13,6 +14,7 @@ mod sender;
 mod tests;
 
 pub use errors::RoundError;
+pub use laws::rounds_make_calls;
 pub use phases::{ReceiverPhase, SenderPhase, Verdict};
 pub use receiver::Receiver;
 pub use sender::Sender;
