@@ -12,4 +12,9 @@ mod Ranks
 pub mod Runs
 pub mod RunsSound
 mod Steps
+pub mod Tells
+mod ToldGoing
+pub mod Three
+mod WrongMachines
+pub mod Follows
 mod Unstuck

@@ -11,7 +11,7 @@ use Rattle.laws_rounds.specs.Going.{rank_of, rank_below, rank}
 
 -- sums
 
-below_le : (v w : Rounds) (k : ℕ) → ((n : ℕ) → rank_of v n ≤ rank_of w n) → rank_below v k ≤ rank_below w k
+pub below_le : (v w : Rounds) (k : ℕ) → ((n : ℕ) → rank_of v n ≤ rank_of w n) → rank_below v k ≤ rank_below w k
 unfolding rank_below
 below_le v w zero le = omega arith
 below_le v w (suc k) le = omega (arith, le k, below_le v w k le)

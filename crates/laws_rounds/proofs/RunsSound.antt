@@ -1,21 +1,23 @@
 -- What follows from the invariant, after each list of accepted events.
-use Rattle.std.proofs.Common.{◌≡◌, ◌≢◌, ◌<◌, ℕ, suc, Bool, true, false, List, [], ◌∷◌, Option, Some, None, refl, sym, ◌∙◌, subst, arith, if◌then◌else◌}
+use Rattle.std.proofs.Common.{◌≡◌, ◌≢◌, ◌⊎◌, ◌<◌, ℕ, suc, Bool, true, false, List, [], ◌∷◌, Option, Some, None, refl, sym, ◌∙◌, subst, arith, if◌then◌else◌}
 use Rattle.std.specs.Prelude.{◌==◌}
+use Rattle.std.specs.Option.{option_map}
+use Rattle.mdc_types.specs.declared.roles.NodeState.TheVariants as states
 use Rattle.std.proofs.lemmas.Bool.Decides.{nat_tests}
 use Rattle.dlm_modes.specs.declared.mode.Mode.{Mode}
 use Rattle.dlm_modes.specs.declared.mode.Mode.TheVariants.{CR, EX}
 use Rattle.dlm_space.specs.Orderly.{agree}
 use Rattle.msg_rounds.specs.Holds.{HasJust, SenderHolds, ReceiverHolds, NodeHolds, MayTake, MayResume}
-use Rattle.msg_rounds.specs.Locks.{message_res}
+use Rattle.msg_rounds.specs.Locks.{token_res, message_res}
 use Rattle.msg_rounds.specs.Phases.{is_idle, has_processed, may_receive, has_published}
 use Rattle.msg_rounds.specs.Refusals.{take_refusal, resume_refusal}
 use Rattle.msg_rounds.specs.declared.phases.ReceiverPhase.{ReceiverPhase}
 use Rattle.msg_rounds.specs.declared.phases.ReceiverPhase.TheVariants as receivers
 use Rattle.msg_rounds.specs.declared.phases.Verdict.TheVariants.{Whole, Broken}
 use Rattle.laws_rounds.specs.Machine.{Rounds, Event, Join, ComeIn, Leave, AskToken, TokenGranted, AskMessage, MessageGranted, Offer, Void, Publish, AckGranted, Finish, Quit, Take, Processed, PrGranted, Resume, Drop, Grant, Die, Answer, Entry, May, is_in, called_by, receiving, answer_to, rounds_after, AreAccepted}
-use Rattle.laws_rounds.specs.Traces.{Fate, Open, Deed, Taking, Processing, fate_at, fate_in, published_in, taken_at, taken_in, deeds_at, deeds_in, addressed_at, addressed_in, count_at, up_in}
-use Rattle.laws_rounds.specs.Sound.{Falls, verdict_of, IsTaken, IsEnded, IsFinished, IsRightAt, AreRight, MayComeIn, StateHolds, RoundsAreSound}
-use Rattle.laws_rounds.specs.Invariants.{Held, Queues, Members, Inv, deeds_of, is_dead_fate}
+use Rattle.laws_rounds.specs.Traces.{Said, Fate, Open, Deed, Taking, Processing, fate_at, fate_in, said_in, published_in, taken_at, taken_in, deeds_at, deeds_in, addressed_at, addressed_in, count_at, up_in}
+use Rattle.laws_rounds.specs.Sound.{Falls, verdict_of, IsTaken, IsEnded, IsFinished, IsRightAt, AreRight, MayComeIn, StateHolds, SenderSound, ReceiverSound, SoundAt, RoundsAreSound}
+use Rattle.laws_rounds.specs.Invariants.{Held, Queues, Members, Inv, deeds_of, is_dead_fate, sender_said}
 use Rattle.laws_rounds.proofs.Guards.{take_guard, resume_guard, finish_guard}
 use Rattle.laws_rounds.proofs.Others.{alone, alone_quiet, calling_none, ack_held, all_done, published_cw, readable, quiet}
 use Rattle.laws_rounds.proofs.Steps.{caller_is, lacks_own}
@@ -83,12 +85,43 @@ may_come_in w members past n i m =
       takeable = λ k ne. not_ex _ (calling_none w n i.held (alone_quiet w n (rw m.1 refl) others) k);
     }
 
+joining_holds : (w : Rounds) (n : ℕ) → Held w → Queues w → Members w → w.state n ≡ states.Joining → HasJust (w.locks token_res) n (Some EX) [] [] ⊎ HasJust (w.locks token_res) n None (EX ∷ []) []
+joining_holds w n he qu me s = grind (arith, me.fitting n, he.token n, qu.token_requests n, qu.token_conversions)
+
 state_holds : (w : Rounds) (n : ℕ) → Held w → Queues w → Members w → StateHolds w n
 state_holds w n he qu me = record {
   out = λ s. grind (arith, me.fitting n);
   still = me.idle n;
   absent = λ s. (grind (arith, he.ack n), grind (arith, qu.ack_requests), grind (arith, qu.ack_conversions n, he.ack n));
+  joining = joining_holds w n he qu me;
+  loaded = λ s. (grind (arith, me.fitting n, he.token n), grind (arith, me.fitting n, qu.token_requests n), grind (arith, qu.token_conversions));
+  beyond = me.below n;
   calm = λ s may idle. (grind (arith, he.ack n), grind (arith, qu.ack_requests), grind (arith, qu.ack_conversions n));
+}
+
+-- What the entries tell of a node's phases.
+
+verdict_right : (fate : Fate) (gone : Bool) → gone ≡ is_dead_fate fate → (if gone then Broken else Whole) ≡ verdict_of fate
+verdict_right fate gone e = grind arith
+
+sender_sound : (w : Rounds) (members : ℕ → Bool) (past : List Entry) (n : ℕ) → Inv w members past → SenderSound w past n
+sender_sound w members past n i = record {
+  sending = i.members_are.sending n;
+  published = i.told.fate_open n;
+  is_open = i.told.open_fate n;
+  said = i.told.block n;
+  valid = i.told.valid n;
+}
+
+sender_is : (said : Option Said) (n : ℕ) → sender_said said n ≡ true → option_map (λ (s : Said). s.sender) said ≡ Some n
+sender_is None n e = cc
+sender_is (Some said) n e = grind (arith, nat_tests)
+
+receiver_sound : (w : Rounds) (members : ℕ → Bool) (past : List Entry) (n : ℕ) → Inv w members past → ReceiverSound w past n
+receiver_sound w members past n i = record {
+  last = i.told.last n;
+  from = λ busy. sender_is (said_in past) (w.from n) (i.told.from n busy);
+  told = λ busy. verdict_right (fate_in past) (w.gone n) (i.told.gone n busy);
 }
 
 -- What a trace tells by itself.
@@ -169,9 +202,6 @@ finish_right w n members past i m =
     let open_round : fate_in past ≡ Open n = i.told.fate_open n (rw g refl) in
     (open_round, λ k. done_right w n k members past i (rw g refl) (all_done w n i.apart i.held (ack_held w n i.held i.members_are g) k) (unaddressed members past n open_round))
 
-verdict_right : (fate : Fate) (gone : Bool) → gone ≡ is_dead_fate fate → (if gone then Broken else Whole) ≡ verdict_of fate
-verdict_right fate gone e = grind arith
-
 busy_phase : (r : ReceiverPhase) → has_processed r ≡ true → is_idle r ≡ false
 busy_phase r e = grind arith
 
@@ -251,16 +281,21 @@ falls_in : (members : ℕ → Bool) (past : List Entry) → AreAccepted members 
 falls_in members [] a n = tt
 falls_in members (entry ∷ past) a n = falls_at (rounds_after members past) members past n entry.event (inv_after members past a.0) a.1.may (falls_in members past a.0 n)
 
+sound_at : (w : Rounds) (members : ℕ → Bool) (past : List Entry) → Inv w members past → SoundAt w members past
+sound_at w members past i = record {
+  holds = λ n. node_holds w n i.held i.queues i.members_are;
+  may_take = λ n. may_take w members past n i;
+  may_resume = λ n. may_resume w members past n i;
+  may_come_in = λ n. may_come_in w members past n i;
+  states_hold = λ n. state_holds w n i.held i.queues i.members_are;
+  up = i.told.up;
+  senders = λ n. sender_sound w members past n i;
+  receivers = λ n. receiver_sound w members past n i;
+}
+
 pub rounds_are_sound : RoundsAreSound
-rounds_are_sound members past a =
-    let w : Rounds = rounds_after members past in
-    let i : Inv w members past = inv_after members past a in
-    record {
-      right = are_right members past a;
-      order = falls_in members past a;
-      holds = λ n. node_holds w n i.held i.queues i.members_are;
-      may_take = λ n. may_take w members past n i;
-      may_resume = λ n. may_resume w members past n i;
-      may_come_in = λ n. may_come_in w members past n i;
-      states_hold = λ n. state_holds w n i.held i.queues i.members_are;
-    }
+rounds_are_sound members past a = record {
+  right = are_right members past a;
+  order = falls_in members past a;
+  place = sound_at (rounds_after members past) members past (inv_after members past a);
+}

@@ -352,7 +352,7 @@ quit_with_keeps w n states.Joining true members past answer i u h q = let fit = 
 quit_with_keeps w n states.Joining false members past answer i u h q = quit_joining_keeps w n members past answer i u (may_quit_is (w.sender n) false q h refl)
 quit_with_keeps w n states.Out has members past answer i u h q = let fit = i.members_are.fitting n in grind arith
 
-quit_is : (w : Rounds) (n : ℕ) (state : NodeState) → w.state n ≡ state → after w (Quit n) ≡ quit_with w n state (has_message (w.sender n))
+pub quit_is : (w : Rounds) (n : ℕ) (state : NodeState) → w.state n ≡ state → after w (Quit n) ≡ quit_with w n state (has_message (w.sender n))
 quit_is w n states.Up e = rw e refl
 quit_is w n states.Loaded e = rw e refl
 quit_is w n states.Joining e = rw e refl

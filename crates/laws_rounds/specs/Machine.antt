@@ -131,13 +131,14 @@ after w (PrGranted n) = receiver_now w n receivers.Ready w.locks
 after w (Resume n) = receiver_now w n receivers.Idle (resumed w.locks n)
 after w (Drop n) = receiver_now w n receivers.Idle (message_dropped w.locks n)
 after w (Grant r) = record w { locks = with_at w.locks r (granted (w.locks r)) }
--- one step: its locks and requests go, its phases are idle, and the receivers of its message, which is
--- published and not finished, learn of it
+-- one step: its locks and requests go, its sender and its receiver are new, and the receivers of its message, which
+-- is published and not finished, learn of it
 after w (Die n) = record w {
   state = with_at w.state n states.Out;
   sender = with_at w.sender n senders.Idle;
   receiver = with_at w.receiver n receivers.Idle;
-  gone = λ m. w.gone m || (has_published (w.sender n) && not (is_idle (w.receiver m)) && (w.from m == n));
+  from = with_at w.from n 0;
+  gone = λ m. if m == n then false else w.gone m || (has_published (w.sender n) && not (is_idle (w.receiver m)) && (w.from m == n));
   locks = all_died w.locks n;
 }
 

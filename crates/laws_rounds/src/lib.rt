@@ -5,5 +5,5 @@
 mod going;
 mod laws;
 
-pub use going::rounds_go_on;
+pub use going::{rounds_are_told, rounds_go_on, told_rounds_go_on};
 pub use laws::rounds_are_sound;
