@@ -9,7 +9,7 @@ use Rattle.byteorder.specs.Endian.{little_bytes, little_number}
 use Rattle.byteorder.specs.Numbers.{little_number-reads_back}
 use Rattle.cluster_msgs.specs.declared.fields.Fields.{Fields}
 use Rattle.mdc_types.specs.declared.numbers.Range.{Range}
-use Rattle.cluster_msgs.specs.Layout.{layout, AreFields}
+use Rattle.cluster_msgs.specs.Layout.{layout}
 use Rattle.cluster_msgs.specs.Ranges.{IsRange, SpellsRange, spelled_range}
 use Rattle.cluster_msgs.specs.Reading.{below, range_of}
 
@@ -33,6 +33,17 @@ word_at (x ∷ xs) (suc k) fit lt =
 last_words : (uuid rest : List ℕ) → length uuid ≡ 16 → length rest ≡ 16 → take 16 (drop 16 (uuid ++ rest)) ≡ rest
 last_words uuid rest sixteen same = rw (drop_at uuid rest 16 sixteen, take_all 16 rest (omega arith)) refl
 
+-- each field has its size
+pub record AreFields (f : Fields) : Type 0 where
+  pub kind : f.kind < 2 ^ 32
+  pub slot : f.slot < 2 ^ 32
+  pub first : f.first < 2 ^ 64
+  pub second : f.second < 2 ^ 64
+  pub leg : f.leg < 2 ^ 32
+  pub uuid : length f.uuid ≡ 16
+  pub roles : length f.roles ≡ 8
+  pub codes : (k : ℕ) → slice_index f.roles k < 2 ^ 16
+
 -- these fields are read of the bytes
 pub record ReadFrom (r : Fields) (bytes : List ℕ) : Type 0 where
   pub kind : r.kind ≡ little_number 4 (mid_of 0 64 bytes)
@@ -45,7 +56,7 @@ pub record ReadFrom (r : Fields) (bytes : List ℕ) : Type 0 where
   pub eight : length r.roles ≡ 8
 
 -- other fields are not
-read_once : (r s : Fields) (bytes : List ℕ) → ReadFrom r bytes → ReadFrom s bytes → r ≡ s
+pub read_once : (r s : Fields) (bytes : List ℕ) → ReadFrom r bytes → ReadFrom s bytes → r ≡ s
 read_once r s bytes a b =
     let k : r.kind ≡ s.kind = a.kind ∙ sym b.kind in
     let n : r.slot ≡ s.slot = a.slot ∙ sym b.slot in

@@ -10,10 +10,10 @@ use Rattle.cluster_msgs.specs.declared.msg.Body.{Body}
 use Rattle.cluster_msgs.specs.declared.msg.Body.TheVariants.{Metadata, Resyncing, NewDisk, Remove, ReAdd, NeedsSync, Capacity}
 use Rattle.cluster_msgs.specs.declared.msg.Msg.{Msg}
 use Rattle.cluster_msgs.specs.declared.fields.Fields.{Fields}
-use Rattle.cluster_msgs.specs.Layout.{layout, no_fields, AreFields}
+use Rattle.cluster_msgs.specs.Layout.{layout, no_fields}
 use Rattle.cluster_msgs.specs.Messages.{kind_of, code_at, codes_of, fields_with, fields_of, spelled, AreEight, HasArrays, IsBody, IsMsg, Spells}
 use Rattle.cluster_msgs.specs.Reading.{below, roles_of, state_of, metadata_of, capacity_of, resyncing_of, leg_of, body_of, msg_of}
-use Rattle.cluster_msgs.proofs.Bytes.{layout_once, below-lt, range_of-ends}
+use Rattle.cluster_msgs.proofs.Bytes.{AreFields, layout_once, below-lt, range_of-ends}
 
 -- Fields have their sizes.
 

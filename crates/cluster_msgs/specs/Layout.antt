@@ -1,5 +1,5 @@
 -- The bytes of a message block: 64 in all, all numbers little endian.
-use Rattle.std.specs.Prelude.{◌≡◌, ℕ, ◌<◌, ◌^◌, length, slice_index, replicate, List, ◌++◌}
+use Rattle.std.specs.Prelude.{ℕ, replicate, List, ◌++◌}
 use Rattle.std.specs.List.{flat_map}
 use Rattle.byteorder.specs.Endian.{little_bytes}
 use Rattle.cluster_msgs.specs.declared.fields.Fields.{Fields}
@@ -12,14 +12,3 @@ layout f = little_bytes 4 f.kind ++ (little_bytes 4 f.slot ++ (little_bytes 8 f.
 -- a message of which but kind and slot no field is used
 abbrev pub no_fields : ℕ → ℕ → Fields
 no_fields kind slot = record { kind = kind; slot = slot; first = 0; second = 0; leg = 0; uuid = replicate 16 0; roles = replicate 8 0 }
-
--- each field has its size
-pub record AreFields (f : Fields) : Type 0 where
-  pub kind : f.kind < 2 ^ 32
-  pub slot : f.slot < 2 ^ 32
-  pub first : f.first < 2 ^ 64
-  pub second : f.second < 2 ^ 64
-  pub leg : f.leg < 2 ^ 32
-  pub uuid : length f.uuid ≡ 16
-  pub roles : length f.roles ≡ 8
-  pub codes : (k : ℕ) → slice_index f.roles k < 2 ^ 16

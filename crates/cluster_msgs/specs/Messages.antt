@@ -1,7 +1,6 @@
 -- The grammar of messages: which values are messages, and the 64 bytes that spell each.
 use Rattle.std.specs.Prelude.{◌≡◌, ℕ, ◌<◌, ◌≤◌, ◌^◌, true, length, List, [], ◌∷◌}
-use Rattle.std.specs.List.{list_any}
-use Rattle.mdc_types.specs.Roles.{role_of, role_code, is_working}
+use Rattle.mdc_types.specs.Roles.{role_of, role_code, some_works}
 use Rattle.mdc_types.specs.declared.roles.Roles.{Roles}
 use Rattle.cluster_msgs.specs.declared.fields.Fields.{Fields}
 use Rattle.cluster_msgs.specs.declared.msg.Body.{Body}
@@ -24,7 +23,7 @@ kind_of (Capacity events roles size) = 6
 pub record IsState (events : ℕ) (roles : Roles) (size : ℕ) : Type 0 where
   pub number : (1 ≤ events) × (events ≤ 2 ^ 63)
   pub sectors : (1 ≤ size) × (size ≤ 131072)
-  pub working : list_any is_working roles.legs ≡ true
+  pub working : some_works (role_of roles) ≡ true
 
 abbrev pub IsBody : Body → Type 0
 IsBody (Metadata events roles size) = IsState events roles size

@@ -1,7 +1,8 @@
-ghost use Rattle.std.specs.Prelude.{◌≡◌, ◌≤◌, length, drop, ◌++◌};
+ghost use Rattle.std.specs.Prelude.{◌≡◌, length, ◌++◌};
 ghost use Rattle.std.specs.List.{flat_map};
 ghost use Rattle.byteorder.specs.Endian.{little_bytes};
-ghost use Rattle.cluster_msgs.specs.Layout.{layout, AreFields};
+ghost use Rattle.cluster_msgs.specs.Layout.{layout};
+ghost use Rattle.cluster_msgs.specs.Reading.{fields_in};
 
 use byteorder::{ByteOrder, LittleEndian};
 
@@ -59,9 +60,8 @@ impl Fields {
     }
 
     // The fields in the 64 bytes. Bytes 28 to 31 are in none.
-    #[tactic(auto, unfolding(crate::specs::Layout::layout))]
     pub(crate) fn read(bytes: &[u8; 64]) -> Fields
-        ensures { (f : Fields) → AreFields f → bytes.now ≡ layout f → result ≡ f }
+        ensures { result ≡ fields_in bytes.now }
     {
         let mut uuid = [0; 16];
         uuid.copy_from_slice(&bytes[32..48]);

@@ -13,7 +13,10 @@ mod reading;
 #[cfg(test)]
 mod tests;
 
-pub use laws::{messages_have_one_spelling, ranges_have_one_spelling};
+pub use laws::{
+    blocks_say_their_range, blocks_say_what_they_spell, messages_have_one_spelling,
+    ranges_have_one_spelling,
+};
 pub use msg::{Body, Msg};
 pub use ranges::{read_range, write_range};
 pub use reading::{read_msg, write_msg};

@@ -1,6 +1,5 @@
-ghost use Rattle.std.specs.Prelude.{◌≡◌, ◌↔◌, IsTrue};
-ghost use Rattle.std.specs.List.{list_any};
-ghost use Rattle.mdc_types.specs.Roles.{is_working};
+ghost use Rattle.std.specs.Prelude.{◌≡◌, ◌<◌, ◌↔◌, IsTrue};
+ghost use Rattle.mdc_types.specs.Roles.{role_of, is_working, some_works};
 ghost use Rattle.cluster_msgs.specs.Messages.{kind_of, IsState, IsBody, IsInRange};
 
 use crate::ranges::is_range;
@@ -51,10 +50,22 @@ pub enum Body {
     },
 }
 
-fn has_working(roles: &Roles) -> bool
-    ensures { result ≡ list_any is_working roles.now.legs }
+fn is_working(roles: &Roles, l: LegId) -> bool
+    requires { l < 8 }
+    ensures { result ≡ is_working (role_of roles.now l) }
 {
-    roles.legs.iter().any(|r| matches!(r, Role::Working))
+    matches!(roles.of(l), Role::Working)
+}
+
+fn has_working(roles: &Roles) -> bool
+    ensures { result ≡ some_works (role_of roles.now) }
+{
+    for l in 0..8 {
+        if is_working(roles, l) {
+            return true;
+        }
+    }
+    false
 }
 
 fn is_state(events: u64, roles: &Roles, size: u32) -> bool

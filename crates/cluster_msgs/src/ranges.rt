@@ -1,7 +1,6 @@
-ghost use Rattle.std.specs.Prelude.{◌≡◌, ◌^◌, ◌↔◌, IsTrue, IfSome, IfNone, Some};
-ghost use Rattle.mdc_types.specs.declared.numbers.Range.{Range};
+ghost use Rattle.std.specs.Prelude.{◌≡◌, ◌^◌, ◌↔◌, IsTrue};
 ghost use Rattle.cluster_msgs.specs.Ranges.{IsRange, SpellsRange};
-ghost use Rattle.cluster_msgs.specs.Reading.{below, range_of};
+ghost use Rattle.cluster_msgs.specs.Reading.{below, range_of, range_in};
 
 use byteorder::{ByteOrder, LittleEndian};
 use dlm_modes::Block;
@@ -47,9 +46,7 @@ pub fn write_range(r: Range) -> Block
 
 /// The range whose block this is. None where it is no range's.
 pub fn read_range(block: &Block) -> Option<Range>
-    ensures found { IfSome result (SpellsRange block.now.bytes) }
-    ensures none { IfNone result ((r : Range) → ¬ SpellsRange block.now.bytes r) }
-    ensures only { (r : Range) → SpellsRange block.now.bytes r → result ≡ Some r }
+    ensures { result ≡ range_in block.now.bytes }
 {
     let lo = LittleEndian::read_u64(&block.bytes[0..]);
     let hi = LittleEndian::read_u64(&block.bytes[8..]);

@@ -1,8 +1,7 @@
-ghost use Rattle.std.specs.Prelude.{◌≡◌, ◌^◌, ◌↔◌, length, IsTrue, IfSome, IfNone, Some};
-ghost use Rattle.cluster_msgs.specs.declared.msg.Msg.{Msg};
+ghost use Rattle.std.specs.Prelude.{◌≡◌, ◌^◌, ◌↔◌, length, IsTrue};
 ghost use Rattle.cluster_msgs.specs.Layout.{no_fields};
 ghost use Rattle.cluster_msgs.specs.Messages.{kind_of, codes_of, fields_of, IsUuid, HasArrays, IsInRange, IsMsg, Spells};
-ghost use Rattle.cluster_msgs.specs.Reading.{below, roles_of, state_of, metadata_of, capacity_of, body_of, msg_of};
+ghost use Rattle.cluster_msgs.specs.Reading.{below, roles_of, state_of, metadata_of, capacity_of, body_of, msg_of, message_in};
 
 use crate::fields::Fields;
 use crate::ranges::{narrow, range_of};
@@ -202,9 +201,7 @@ fn spells(block: &Block, m: &Msg) -> bool
 
 /// The message whose block this is. None where it is no message's.
 pub fn read_msg(block: &Block) -> Option<Msg>
-    ensures found { IfSome result (Spells block.now.bytes) }
-    ensures none { IfNone result ((m : Msg) → ¬ Spells block.now.bytes m) }
-    ensures only { (m : Msg) → Spells block.now.bytes m → result ≡ Some m }
+    ensures { result ≡ message_in block.now.bytes }
 {
     let m = msg_of(&Fields::read(&block.bytes))?;
     if spells(block, &m) { Some(m) } else { None }

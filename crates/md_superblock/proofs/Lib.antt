@@ -1,3 +1,4 @@
+pub mod ArrayLaws
 pub mod Bytes
 pub mod GuardLaws
 pub mod NoFault

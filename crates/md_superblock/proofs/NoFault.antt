@@ -8,7 +8,7 @@ use Rattle.dlm_modes.specs.First.{first_such}
 use Rattle.md_superblock.specs.declared.faults.Field.TheVariants as field
 use Rattle.md_superblock.specs.declared.faults.SuperFault.TheVariants.{Magic, Version, Sum, Level, Range, Role}
 use Rattle.md_superblock.specs.Layout.{number_at, checksum_of}
-use Rattle.md_superblock.specs.Superblock.{is_name, device_uuid}
+use Rattle.mdc_types.specs.Names.{is_name, device_uuid}
 use Rattle.md_superblock.specs.Faults.{is_within, head_fault, array_fault, device_fault, state_fault, range_fault, rest_is_zero, has_role, is_working_at, role_fault, fault_of}
 use Rattle.md_superblock.proofs.GuardLaws.{three_pass, four_pass, five_pass, three_none, option_map_none, then_none}
 

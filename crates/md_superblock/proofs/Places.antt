@@ -7,7 +7,8 @@ use Rattle.std.proofs.Math.Nat.{mod-lt}
 use Rattle.std.specs.Int.{bytes_low_first}
 use Rattle.byteorder.specs.Endian.{little_from}
 use Rattle.byteorder.specs.Numbers.{little_number-reads_back}
-use Rattle.md_superblock.specs.Layout.{IsSector, number_at, bytes_of, with_bytes, covers}
+use Rattle.mdc_types.specs.Sectors.{IsSector}
+use Rattle.md_superblock.specs.Layout.{number_at, bytes_of, with_bytes, covers}
 
 -- numbers of the same bytes are the same
 little_from-agree : (n i j : ℕ) (xs ys : List ℕ) → ((a b : ℕ) → a + j ≡ b + i → i ≤ a → a < i + n → get_or xs a 0 ≡ get_or ys b 0) → little_from i n xs ≡ little_from j n ys

@@ -9,8 +9,11 @@ use Rattle.dlm_modes.specs.First.{first_such}
 use Rattle.dlm_modes.proofs.FirstLaws.{first_such_none}
 use Rattle.mdc_types.specs.Roles.{role_of, role_code, is_working}
 use Rattle.md_superblock.specs.declared.superblock.Super.{Super}
-use Rattle.md_superblock.specs.Layout.{IsSector, number_at, checksum_of, is_named}
-use Rattle.md_superblock.specs.Superblock.{IsSuper, IsWritten, is_name, data_offset_of, device_uuid, role_number, roles_of, super_of}
+use Rattle.mdc_types.specs.Sectors.{IsSector}
+use Rattle.md_superblock.specs.Layout.{number_at, checksum_of, is_named}
+use Rattle.mdc_types.specs.Geometry.{data_offset_of}
+use Rattle.mdc_types.specs.Names.{is_name, device_uuid}
+use Rattle.md_superblock.specs.Superblock.{IsSuper, IsWritten, role_number, roles_of, super_of}
 use Rattle.md_superblock.specs.Faults.{is_stray, rest_is_zero, has_role, is_working_at}
 use Rattle.md_superblock.proofs.NoFault.{HasNoFault, within_parts, within_from}
 use Rattle.md_superblock.proofs.RoleNumbers.{first_such_agree, none_such, IsRole, role_is, role_of-roles_of, is_working-role, is_working-code, has_role-written, roles_written}
@@ -20,13 +23,13 @@ none_from_is_none None e = refl
 none_from_is_none (Some x) e = cc
 
 -- an offset of an image version is that of the version which it tells
-offset_told : (offset : ℕ) → (offset == 80 || offset == 272) ≡ true → offset ≡ data_offset_of (if offset == 272 then 2 else 1)
+offset_told : (offset : ℕ) → (offset == 80 || offset == 272) ≡ true → offset ≡ data_offset_of ((if offset == 272 then 2 else 1) == 2)
 offset_told offset e = grind (arith, nat_tests, or_cases (offset == 80) (offset == 272) e)
 
-version_told : (version : ℕ) → 1 ≤ version → version ≤ 2 → (if data_offset_of version == 272 then 2 else 1) ≡ version
+version_told : (version : ℕ) → 1 ≤ version → version ≤ 2 → (if data_offset_of (version == 2) == 272 then 2 else 1) ≡ version
 version_told version low high = grind (arith, nat_tests)
 
-offset_taken : (version : ℕ) → (data_offset_of version == 80 || data_offset_of version == 272) ≡ true
+offset_taken : (version : ℕ) → (data_offset_of (version == 2) == 80 || data_offset_of (version == 2) == 272) ≡ true
 offset_taken version = grind (arith, nat_tests)
 
 version_in : (offset : ℕ) → (1 ≤ (if offset == 272 then 2 else 1)) × ((if offset == 272 then 2 else 1) ≤ 2)

@@ -1,5 +1,5 @@
 -- What the writer writes spells the superblock.
-use Rattle.std.proofs.Common.{◌≡◌, ◌≢◌, inl, inr, ℕ, zero, suc, ◌+◌, ◌*◌, ◌^◌, ◌<◌, ◌≤◌, true, false, List, [], ◌∷◌, ◌++◌, length, drop, get_or, replicate, refl, sym, ap, ◌∙◌, arith, lit≤, lit<}
+use Rattle.std.proofs.Common.{◌≡◌, ◌≢◌, inl, inr, ℕ, zero, suc, ◌+◌, ◌*◌, ◌^◌, ◌<◌, ◌≤◌, ◌==◌, true, false, List, [], ◌∷◌, ◌++◌, length, drop, get_or, replicate, refl, sym, ap, ◌∙◌, arith, lit≤, lit<}
 use Rattle.std.specs.Prelude.{slice_range}
 use Rattle.std.proofs.lemmas.Bool.{cases_eq, eq-eqb, ne_eqb}
 use Rattle.std.proofs.lemmas.Bool.Decides.{nat_tests}
@@ -9,8 +9,11 @@ use Rattle.mdc_types.specs.declared.roles.Role.TheVariants.{Working, Rebuilding,
 use Rattle.mdc_types.specs.declared.roles.Roles.{Roles}
 use Rattle.mdc_types.specs.Roles.{role_of, role_code}
 use Rattle.md_superblock.specs.declared.superblock.Super.{Super}
-use Rattle.md_superblock.specs.Layout.{IsSector, number_at, bytes_of, with_bytes, sum_below, word_at, words_sum, checksum_of, covers, is_named}
-use Rattle.md_superblock.specs.Superblock.{IsSuper, IsWritten, data_offset_of, device_uuid}
+use Rattle.mdc_types.specs.Sectors.{IsSector}
+use Rattle.md_superblock.specs.Layout.{number_at, bytes_of, with_bytes, sum_below, word_at, words_sum, checksum_of, covers, is_named}
+use Rattle.mdc_types.specs.Geometry.{data_offset_of}
+use Rattle.mdc_types.specs.Names.{device_uuid}
+use Rattle.md_superblock.specs.Superblock.{IsSuper, IsWritten}
 use Rattle.md_superblock.specs.Pieces.{Piece, piece, number, with_pieces, array_pieces, device_pieces, state_pieces, role_piece, role_pieces}
 use Rattle.md_superblock.proofs.Bytes.{length-bytes_of}
 use Rattle.md_superblock.proofs.Places.{number_at-agree, get_or-with_bytes_out, sector-with_bytes, bytes_of-lt}
@@ -67,7 +70,7 @@ pub record HasSizes (s : Super) : Type 0 where
   pub name : length s.name ≡ 32
   pub roles : length s.roles.legs ≡ 8
 
-all_fit : (s : Super) (sum : ℕ) → HasSizes s → AllFit (all_pieces s sum)
+pub all_fit : (s : Super) (sum : ℕ) → HasSizes s → AllFit (all_pieces s sum)
 all_fit s sum sizes =
     let device : length (device_uuid s.uuid s.device) ≡ 16 = length-set s.uuid 15 s.device ∙ sizes.uuid in (
       lit≤ tt,
@@ -98,7 +101,7 @@ all_fit s sum sizes =
                       length-bytes_of 4 8,
                       (
                         lit≤ tt,
-                        length-bytes_of 8 (data_offset_of s.version),
+                        length-bytes_of 8 (data_offset_of (s.version == 2)),
                         (
                           lit≤ tt,
                           length-bytes_of 8 s.room,
@@ -175,7 +178,7 @@ all_fit s sum sizes =
 pub written : Super → ℕ → List ℕ
 written s sum = with_pieces zeros (all_pieces s sum)
 
-pub before_sum : Super → List ℕ
+unfoldable pub before_sum : Super → List ℕ
 before_sum s = with_pieces zeros (unsummed s)
 
 -- the number of piece k
@@ -206,7 +209,7 @@ roles_in s sum (suc (suc (suc (suc (suc (suc zero)))))) sizes lt = number_in s s
 roles_in s sum (suc (suc (suc (suc (suc (suc (suc zero))))))) sizes lt = number_in s sum 23 270 2 (role_code 7 (role_of s.roles 7)) sizes refl refl (role_code-lt 7 (role_of s.roles 7) lt)
 roles_in s sum (suc (suc (suc (suc (suc (suc (suc (suc l)))))))) sizes lt = absurd (omega arith)
 
-data_offset-lt : (version : ℕ) → data_offset_of version < 256 ^ 8
+data_offset-lt : (version : ℕ) → data_offset_of (version == 2) < 256 ^ 8
 data_offset-lt version = grind (arith, nat_tests)
 
 rest_in : (s : Super) (sum i : ℕ) → HasSizes s → is_named i ≡ false → i < 512 → get_or (written s sum) i 0 ≡ 0
@@ -242,7 +245,7 @@ written_spells s sum sizes in_range sector fits is =
       size = number_in s sum 6 80 8 s.sectors sizes refl refl (omega arith);
       raid_disks = number_in s sum 7 92 4 s.geometry_legs sizes refl refl (omega arith);
       bitmap_offset = number_in s sum 8 96 4 8 sizes refl refl (lit< tt);
-      data_offset = number_in s sum 9 128 8 (data_offset_of s.version) sizes refl refl (data_offset-lt s.version);
+      data_offset = number_in s sum 9 128 8 (data_offset_of (s.version == 2)) sizes refl refl (data_offset-lt s.version);
       data_size = number_in s sum 10 136 8 s.room sizes refl refl (omega arith);
       superblock_offset = number_in s sum 11 144 8 8 sizes refl refl (lit< tt);
       device_number = number_in s sum 12 160 4 s.device sizes refl refl (omega arith);

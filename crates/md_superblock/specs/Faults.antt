@@ -9,7 +9,8 @@ use Rattle.md_superblock.specs.declared.faults.Field.TheVariants as field
 use Rattle.md_superblock.specs.declared.faults.SuperFault.{SuperFault}
 use Rattle.md_superblock.specs.declared.faults.SuperFault.TheVariants.{Magic, Version, Sum, Level, Range, Role}
 use Rattle.md_superblock.specs.Layout.{number_at, checksum_of, is_named}
-use Rattle.md_superblock.specs.Superblock.{is_name, device_uuid, role_number, role_at}
+use Rattle.mdc_types.specs.Names.{is_name, device_uuid}
+use Rattle.md_superblock.specs.Superblock.{role_number, role_at}
 
 -- from the least to the most
 abbrev pub is_within : ℕ → ℕ → ℕ → Bool

@@ -1,7 +1,7 @@
 -- The laws of the superblock's grammar.
 use Rattle.std.specs.Prelude.{◌≡◌, ◌↔◌, List, ℕ, None}
 use Rattle.md_superblock.specs.declared.superblock.Super.{Super}
-use Rattle.md_superblock.specs.Layout.{IsSector}
+use Rattle.mdc_types.specs.Sectors.{IsSector}
 use Rattle.md_superblock.specs.Superblock.{IsSuper, IsWritten, super_of}
 use Rattle.md_superblock.specs.Faults.{fault_of}
 

@@ -1,12 +1,7 @@
 -- Bytes, numbers and words of a sector, and the checksum.
-use Rattle.std.specs.Prelude.{◌≡◌, ◌<◌, slice_index, ℕ, zero, suc, ◌+◌, ◌*◌, ◌/◌, ◌%◌, ◌^◌, ◌==◌, nat_lt, nat_le, Bool, ◌&&◌, List, [], ◌∷◌, ◌++◌, length, take, drop, if◌then◌else◌}
+use Rattle.std.specs.Prelude.{ℕ, zero, suc, ◌+◌, ◌*◌, ◌/◌, ◌%◌, ◌^◌, ◌==◌, nat_lt, nat_le, Bool, ◌&&◌, List, [], ◌∷◌, ◌++◌, length, take, drop, if◌then◌else◌}
 use Rattle.std.specs.List.{list_any}
 use Rattle.byteorder.specs.Endian.{little_from, little_bytes}
-
--- 512 bytes
-pub record IsSector (bytes : List ℕ) : Type 0 where
-  pub size : length bytes ≡ 512
-  pub each : (i : ℕ) → slice_index bytes i < 256
 
 -- the number in the n bytes from byte at on, the lowest first
 unfoldable pub number_at : List ℕ → ℕ → ℕ → ℕ

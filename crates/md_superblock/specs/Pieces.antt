@@ -1,10 +1,11 @@
 -- The fields of a superblock as bytes at their places, one piece after the other.
-use Rattle.std.specs.Prelude.{ℕ, zero, suc, ◌+◌, ◌*◌, List, [], ◌∷◌, ◌++◌}
+use Rattle.std.specs.Prelude.{ℕ, zero, suc, ◌+◌, ◌*◌, ◌==◌, List, [], ◌∷◌, ◌++◌}
 use Rattle.mdc_types.specs.declared.roles.Roles.{Roles}
 use Rattle.mdc_types.specs.Roles.{role_of, role_code}
 use Rattle.md_superblock.specs.declared.superblock.Super.{Super}
 use Rattle.md_superblock.specs.Layout.{bytes_of, with_bytes}
-use Rattle.md_superblock.specs.Superblock.{data_offset_of, device_uuid}
+use Rattle.mdc_types.specs.Geometry.{data_offset_of}
+use Rattle.mdc_types.specs.Names.{device_uuid}
 
 -- bytes from byte at on, and how many they are
 pub record Piece : Type 0 where
@@ -31,7 +32,7 @@ array_pieces s =
 
 abbrev pub device_pieces : Super → List Piece
 device_pieces s =
-    number 128 8 (data_offset_of s.version) ∷ number 136 8 s.room ∷ number 144 8 8 ∷ number 160 4 s.device
+    number 128 8 (data_offset_of (s.version == 2)) ∷ number 136 8 s.room ∷ number 144 8 8 ∷ number 160 4 s.device
     ∷ piece 168 16 (device_uuid s.uuid s.device) ∷ []
 
 abbrev pub state_pieces : Super → List Piece

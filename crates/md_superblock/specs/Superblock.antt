@@ -1,37 +1,14 @@
 -- The superblock's grammar: what a sector that spells a superblock holds.
-use Rattle.std.specs.Prelude.{◌≡◌, ℕ, ◌+◌, ◌*◌, ◌^◌, ◌<◌, ◌≤◌, ◌==◌, nat_le, Bool, true, false, ◌&&◌, ◌||◌, List, [], ◌∷◌, length, drop, slice_index, slice_range, slice_set, is_some, if◌then◌else◌, unwrap_or, Option, position, not}
-use Rattle.std.specs.Char.{is_ascii_alphanumeric}
-use Rattle.std.specs.List.{list_all}
-use Rattle.dlm_modes.specs.First.{first_such}
+use Rattle.std.specs.Prelude.{◌≡◌, ℕ, ◌+◌, ◌*◌, ◌^◌, ◌<◌, ◌≤◌, ◌==◌, true, false, List, length, slice_index, slice_range, if◌then◌else◌, unwrap_or, Option}
 use Rattle.mdc_types.specs.declared.roles.Role.{Role}
 use Rattle.mdc_types.specs.declared.roles.Role.TheVariants.{Spare}
 use Rattle.mdc_types.specs.declared.roles.Roles.{Roles}
-use Rattle.mdc_types.specs.Roles.{role_of, role_code, role_of_code, is_working}
+use Rattle.mdc_types.specs.Geometry.{data_offset_of}
+use Rattle.mdc_types.specs.Names.{is_name, device_uuid}
+use Rattle.mdc_types.specs.Roles.{role_of, role_code, role_of_code, some_works, eight}
 use Rattle.md_superblock.specs.declared.superblock.Super.{Super}
-use Rattle.md_superblock.specs.Layout.{IsSector, number_at, checksum_of, is_named}
-
--- a letter, a digit or `_`
-abbrev pub is_name_byte : ℕ → Bool
-is_name_byte b = is_ascii_alphanumeric b || b == 95
-
--- how many of these begin the name: the place of its first other byte
-unfoldable pub name_length : List ℕ → ℕ
-name_length name = unwrap_or (position (λ b. not (is_name_byte b)) name) (length name)
-
-abbrev pub is_zero : List ℕ → Bool
-is_zero bytes = list_all (λ b. b == 0) bytes
-
--- 1 to 31 letters, digits or `_`, then zeros
-abbrev pub is_name : List ℕ → Bool
-is_name name = nat_le 1 (name_length name) && nat_le (name_length name) 31 && is_zero (drop (name_length name) name)
-
--- the sector of a leg where data sector 0 lies, in an image version
-abbrev pub data_offset_of : ℕ → ℕ
-data_offset_of version = if version == 2 then 272 else 80
-
--- a device's uuid: the array's, its last byte replaced by the device number
-abbrev pub device_uuid : List ℕ → ℕ → List ℕ
-device_uuid uuid device = slice_set uuid 15 device
+use Rattle.mdc_types.specs.Sectors.{IsSector}
+use Rattle.md_superblock.specs.Layout.{number_at, checksum_of, is_named}
 
 -- its fields are in their ranges
 pub record IsSuper (s : Super) : Type 0 where
@@ -43,7 +20,7 @@ pub record IsSuper (s : Super) : Type 0 where
   pub device : s.device < s.geometry_legs
   pub events : (1 ≤ s.events) × (s.events ≤ 2 ^ 63)
   pub spares : (l : ℕ) → s.geometry_legs ≤ l → l < 8 → role_of s.roles l ≡ Spare
-  pub working : is_some (first_such (λ l. is_working (role_of s.roles l)) 0 8) ≡ true
+  pub working : some_works (role_of s.roles) ≡ true
 
 -- the number of 16 bits of device l's role
 abbrev pub role_number : List ℕ → ℕ → ℕ
@@ -61,7 +38,7 @@ pub record IsWritten (s : Super) (bytes : List ℕ) : Type 0 where
   pub size : number_at bytes 80 8 ≡ s.sectors
   pub raid_disks : number_at bytes 92 4 ≡ s.geometry_legs
   pub bitmap_offset : number_at bytes 96 4 ≡ 8
-  pub data_offset : number_at bytes 128 8 ≡ data_offset_of s.version
+  pub data_offset : number_at bytes 128 8 ≡ data_offset_of (s.version == 2)
   pub data_size : number_at bytes 136 8 ≡ s.room
   pub superblock_offset : number_at bytes 144 8 ≡ 8
   pub device_number : number_at bytes 160 4 ≡ s.device
@@ -81,9 +58,7 @@ abbrev pub role_or_spare : List ℕ → ℕ → Role
 role_or_spare bytes l = unwrap_or (role_at bytes l) Spare
 
 abbrev pub roles_of : List ℕ → Roles
-roles_of bytes =
-    let role = role_or_spare bytes in
-    record { legs = role 0 ∷ role 1 ∷ role 2 ∷ role 3 ∷ role 4 ∷ role 5 ∷ role 6 ∷ role 7 ∷ [] }
+roles_of bytes = eight (role_or_spare bytes)
 
 -- what the fields say
 unfoldable pub super_of : List ℕ → Super

@@ -1,7 +1,7 @@
 ghost use Rattle.std.specs.Prelude.{◌≡◌, ◌<◌, ◌≤◌, nat_eq, slice_range};
 ghost use Rattle.std.specs.Cmp.Lexicographic.{pointwise};
 ghost use Rattle.md_superblock.specs.Layout.{number_at};
-ghost use Rattle.md_superblock.specs.Superblock.{device_uuid};
+ghost use Rattle.mdc_types.specs.Names.{device_uuid};
 ghost use Rattle.md_superblock.specs.Faults.{array_fault, device_fault, state_fault, is_stray, rest_is_zero};
 
 use crate::faults::Field;

@@ -1,5 +1,6 @@
 ghost use Rattle.std.specs.Prelude.{◌≡◌, ◌≤◌, ◌+◌, ◌*◌, length, slice_range};
-ghost use Rattle.md_superblock.specs.Layout.{IsSector, number_at, bytes_of, with_bytes, checksum_of, is_named};
+ghost use Rattle.mdc_types.specs.Sectors.{IsSector};
+ghost use Rattle.md_superblock.specs.Layout.{number_at, bytes_of, with_bytes, checksum_of, is_named};
 
 use crate::place;
 use byteorder::{ByteOrder, LittleEndian};

@@ -31,6 +31,7 @@
 
 mod faults;
 mod fields;
+mod identity;
 mod laws;
 mod layout;
 mod names;
@@ -43,7 +44,11 @@ mod tests;
 mod writing;
 
 pub use faults::{Field, SuperFault};
-pub use laws::{faults_are_exact, one_spelling, one_value, what_is_written_is_read};
+pub use identity::{ArrayState, Identity};
+pub use laws::{
+    faults_are_exact, one_spelling, one_value, sectors_say_the_state, sectors_say_their_superblock,
+    states_are_read_again, superblocks_are_spelled, what_is_written_is_read,
+};
 pub use layout::sum_of;
 pub use reading::read_super;
 pub use superblock::Super;

@@ -1,5 +1,5 @@
 ghost use Rattle.std.specs.Prelude.{◌≡◌, length, not, position};
-ghost use Rattle.md_superblock.specs.Superblock.{is_name, is_name_byte, is_zero, name_length};
+ghost use Rattle.mdc_types.specs.Names.{is_name, is_name_byte, is_zero, name_length};
 
 fn is_name_byte(b: u8) -> bool
     ensures { result ≡ is_name_byte b }
@@ -14,7 +14,7 @@ fn first_other(name: &[u8]) -> Option<usize>
 }
 
 // How many letters, digits and `_` begin the name.
-#[tactic(auto, unfolding(crate::specs::Superblock::name_length))]
+#[tactic(auto, unfolding(mdc_types::specs::Names::name_length))]
 fn name_length(name: &[u8]) -> usize
     ensures { result ≡ name_length name.now }
 {

@@ -1,6 +1,6 @@
 ghost use Rattle.std.specs.Prelude.{◌≡◌, IfOk, None};
 ghost use Rattle.std.specs.Result.{result_err};
-ghost use Rattle.md_superblock.specs.Layout.{IsSector};
+ghost use Rattle.mdc_types.specs.Sectors.{IsSector};
 ghost use Rattle.md_superblock.specs.Superblock.{IsSuper, IsWritten, roles_of, super_of};
 ghost use Rattle.md_superblock.specs.Faults.{head_fault, range_fault, fault_of};
 

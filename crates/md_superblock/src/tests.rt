@@ -1,6 +1,6 @@
 use super::*;
 use crate::layout::put_u32;
-use mdc_types::{Role, Sector};
+use mdc_types::{Geometry, Role, Sector};
 use std::process::Abort;
 use std::test::Fail;
 
@@ -90,6 +90,38 @@ fn sums(rt: HostRuntime) -> Result<(), Fail> {
             (Role::Working, Role::Spare)
         );
         assert!(rt; write_super(&s) == b, "device {device}, version {version}");
+    }
+    Ok(())
+}
+
+// The state of `demo` is read of leg 0 alone, by the identity of `demo` alone, and written again.
+#[test]
+fn state_of_demo(rt: HostRuntime) -> Result<(), Fail> {
+    let b = forged(&[], &[]);
+    let s = read_super(&b)?;
+    let demo = Identity {
+        geometry: Geometry::new(2, 16, 4)?,
+        name: s.name,
+        uuid: s.uuid,
+    };
+    let state = ArrayState {
+        events: 1,
+        roles: s.roles,
+        size: 16,
+    };
+    let mut others = [demo; 4];
+    others[0].geometry = Geometry::new(3, 16, 4)?;
+    others[1].geometry = Geometry::second(2, 16, 16, 4)?;
+    others[2].name[0] = b'D';
+    others[3].uuid[0] = 1;
+    for (line, other) in others.iter().enumerate() {
+        assert_eq!(rt; other.read(0, &b), None, "line {line}");
+    }
+    assert_eq!(rt; demo.read(1, &b), None);
+    let found = demo.read(0, &b);
+    assert_eq!(rt; found, Some(state));
+    if let Some(state) = found {
+        assert!(rt; demo.write(0, &state) == b);
     }
     Ok(())
 }

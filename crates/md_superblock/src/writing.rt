@@ -1,5 +1,6 @@
 ghost use Rattle.std.specs.Prelude.{◌≡◌, length};
 ghost use Rattle.md_superblock.specs.Superblock.{IsSuper, IsWritten};
+ghost use Rattle.md_superblock.specs.Arrays.{spelled};
 ghost use Rattle.md_superblock.specs.Pieces.{with_pieces, array_pieces, device_pieces, state_pieces, role_pieces};
 
 use crate::fields::device_uuid;
@@ -56,7 +57,8 @@ fn put_roles(b: &mut Sector, legs: &[Role; 8])
 /// that spells this superblock.
 pub fn write_super(s: &Super) -> Sector
     requires { IsSuper s.now }
-    ensures { IsWritten s.now result.bytes }
+    ensures bytes { result.bytes ≡ spelled s.now }
+    ensures grammar { IsWritten s.now result.bytes }
 {
     let mut b = Sector::ZERO;
     put_array(&mut b, s);

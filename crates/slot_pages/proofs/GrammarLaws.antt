@@ -15,20 +15,21 @@ use Rattle.dlm_modes.proofs.FirstLaws.{first_such_some, first_such_none}
 use Rattle.mdc_types.specs.Bits.{has_bit, with_bit}
 use Rattle.mdc_types.proofs.BitsLaws.{has_bit-with_bit}
 use Rattle.mdc_types.specs.Geometry.{Sizes, chunks_of, page_of}
-use Rattle.slot_pages.specs.Slot.{header_byte, page_start, page_end, byte_of_chunk, chunk_bit, Spells, IsSector, page_has, set_of_page, AddsPage, AddsChunks}
+use Rattle.mdc_types.specs.Sectors.{IsSector}
+use Rattle.slot_pages.specs.Slot.{header_byte, page_start, page_end, byte_of_chunk, chunk_bit, Spells, page_has, set_of_page, AddsPage, AddsChunks}
 use Rattle.slot_pages.specs.Faults.{differs, wrong_byte, spare_from, spare_bit, slot_fault}
 use Rattle.slot_pages.specs.declared.SlotFault.TheVariants.{Header, SpareBit}
 use Rattle.slot_pages.proofs.HeaderLaws.{zeros}
 use Rattle.slot_pages.proofs.PageLaws.{page_of-bounds, page_of-within, same_place, after_header}
 
-no_bit : (k : ℕ) → has_bit 0 k ≡ false
+pub no_bit : (k : ℕ) → has_bit 0 k ≡ false
 no_bit k = ap (λ (b : ℕ). b == 1) (bit_at-zero k)
 
 pub empty_bit : (n c : ℕ) → chunk_bit (replicate n 0) c ≡ false
 empty_bit n c = ap (λ (byte : ℕ). has_bit byte (c % 8)) (zeros n (byte_of_chunk c)) ∙ no_bit (c % 8)
 
 pub empty_sector : (n : ℕ) → n ≡ 512 → IsSector (replicate n 0)
-empty_sector n is = record { bytes = length-replicate n 0 ∙ is; fit = λ i. omega (arith, zeros n i) }
+empty_sector n is = record { size = length-replicate n 0 ∙ is; each = λ i. omega (arith, zeros n i) }
 
 -- the page with a chunk's bit set
 abbrev pub with_chunk : List ℕ → ℕ → List ℕ
@@ -116,11 +117,11 @@ bits_agree : (a b j : ℕ) → has_bit a j ≡ has_bit b j → bit_at a j ≡ bi
 bits_agree a b j same = grind (arith, nat_tests, bit_at-lt a j, bit_at-lt b j)
 
 pub one_spelling : (g : Sizes) (uuid : List ℕ) (p : ℕ) (set : List Bool) (a b : List ℕ) → IsSector a → IsSector b → Spells g uuid p set a → Spells g uuid p set b → a ≡ b
-one_spelling g uuid p set a b left right one two = same_number_lists a b (left.bytes ∙ sym right.bytes) (λ i lt. elim (cases_lt (512 * p + i) 256) [
+one_spelling g uuid p set a b left right one two = same_number_lists a b (left.size ∙ sym right.size) (λ i lt. elim (cases_lt (512 * p + i) 256) [
   | inl before ↦ let first : p ≡ 0 = omega arith in one.header first i (omega arith) ∙ sym (two.header first i (omega arith))
   | inr past ↦
-      let short : i < 512 = omega (arith, left.bytes) in
-      same_from_bits_below 8 (get_or a i 0) (get_or b i 0) (left.fit i) (right.fit i) (λ j few. bits_agree _ _ j
+      let short : i < 512 = omega (arith, left.size) in
+      same_from_bits_below 8 (get_or a i 0) (get_or b i 0) (left.each i) (right.each i) (λ j few. bits_agree _ _ j
       (sym (bit_there a p i j past short few) ∙ same_bit g uuid p set a (chunk_at p i j) one (page_of-chunk_at p i j past short few)
       ∙ sym (same_bit g uuid p set b (chunk_at p i j) two (page_of-chunk_at p i j past short few)) ∙ bit_there b p i j past short few))
 ])

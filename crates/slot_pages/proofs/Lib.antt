@@ -1,3 +1,4 @@
 pub mod GrammarLaws
 pub mod HeaderLaws
 pub mod PageLaws
+pub mod Spelled

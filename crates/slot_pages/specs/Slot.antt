@@ -1,8 +1,8 @@
 -- A bitmap slot of a node: a header, and then a bit for each chunk.
-use Rattle.std.specs.Prelude.{◌≡◌, ℕ, ◌+◌, ◌-◌, ◌*◌, ◌/◌, ◌%◌, ◌<◌, ◌≤◌, ◌==◌, nat_lt, if◌then◌else◌, Bool, false, ◌&&◌, ◌||◌, List, [], ◌∷◌, length, get_or, map}
+use Rattle.std.specs.Prelude.{◌≡◌, ℕ, zero, suc, ◌+◌, ◌-◌, ◌*◌, ◌/◌, ◌%◌, ◌<◌, ◌≤◌, ◌==◌, nat_lt, if◌then◌else◌, Bool, false, ◌&&◌, ◌||◌, List, [], ◌∷◌, length, get_or, map}
 use Rattle.std.specs.List.{range_with_len}
 use Rattle.byteorder.specs.Endian.{little_bytes}
-use Rattle.mdc_types.specs.Bits.{has_bit}
+use Rattle.mdc_types.specs.Bits.{has_bit, with_bit}
 use Rattle.mdc_types.specs.Geometry.{Sizes, chunks_of, nodes_of, page_of}
 use Rattle.mdc_types.specs.Ranges.{holds}
 
@@ -46,10 +46,6 @@ pub record Spells (g : Sizes) (uuid : List ℕ) (p : ℕ) (set : List Bool) (pag
   -- bits past the last chunk are 0
   pub spare : (c : ℕ) → page_of c ≡ p → chunks_of g ≤ c → chunk_bit page c ≡ false
 
-pub record IsSector (page : List ℕ) : Type 0 where
-  pub bytes : length page ≡ 512
-  pub fit : (i : ℕ) → get_or page i 0 < 256
-
 -- whether a chunk's bit is set in this page p
 abbrev pub page_has : Sizes → ℕ → List ℕ → ℕ → Bool
 page_has g p page c = nat_lt c (chunks_of g) && (page_of c == p) && chunk_bit page c
@@ -67,3 +63,26 @@ pub record AddsPage (g : Sizes) (p : ℕ) (page : List ℕ) (old new : List Bool
 pub record AddsChunks (p : ℕ) (set old new : List Bool) : Type 0 where
   pub chunks : length new ≡ length old
   pub each : (c : ℕ) → get_or new c false ≡ (get_or old c false || ((page_of c == p) && get_or set c false))
+
+-- the chunk of bit k of byte i of page p
+abbrev pub chunk_of_bit : ℕ → ℕ → ℕ → ℕ
+chunk_of_bit p i k = 4096 * p + 8 * i + k - 2048
+
+-- the numbers below n that pass the test, one bit each
+unfoldable pub bits_below : (ℕ → Bool) → ℕ → ℕ
+bits_below test zero = 0
+bits_below test (suc n) = if test n then with_bit (bits_below test n) n else bits_below test n
+
+-- bits past the last chunk are 0
+abbrev pub is_set : Sizes → (ℕ → Bool) → ℕ → Bool
+is_set g set c = nat_lt c (chunks_of g) && set c
+
+-- byte i of page p: of the header, or the bits of eight chunks
+abbrev pub byte_of_page : Sizes → List ℕ → ℕ → (ℕ → Bool) → ℕ → ℕ
+byte_of_page g uuid p set i =
+    if (p == 0) && nat_lt i 256 then header_byte g uuid i
+    else bits_below (λ k. is_set g set (chunk_of_bit p i k)) 8
+
+-- the 512 bytes of page p that spell the set
+unfoldable pub spelled_page : Sizes → List ℕ → ℕ → (ℕ → Bool) → List ℕ
+spelled_page g uuid p set = map (byte_of_page g uuid p set) (range_with_len 0 512)

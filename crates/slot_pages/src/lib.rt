@@ -12,10 +12,16 @@ ghost use Rattle.dlm_modes.specs.First.{first_such};
 ghost use Rattle.mdc_types.specs.Geometry.{chunks_of, slot_pages, page_of};
 ghost use Rattle.mdc_types.specs.Bits.{with_bit};
 ghost use Rattle.mdc_types.specs.Ranges.{holds};
-ghost use Rattle.slot_pages.specs.Slot.{header_byte, page_start, page_end, byte_of_chunk, chunk_bit, Spells, IsSector, set_of_page, AddsPage, AddsChunks};
+ghost use Rattle.mdc_types.specs.Sectors.{IsSector};
+ghost use Rattle.slot_pages.specs.Slot.{header_byte, page_start, page_end, byte_of_chunk, chunk_bit, Spells, set_of_page, AddsPage, AddsChunks, spelled_page};
 ghost use Rattle.slot_pages.specs.Faults.{differs, spare_from, spare_bit, slot_fault};
 
+mod laws;
+
 use byteorder::{ByteOrder, LittleEndian};
+pub use laws::{
+    pages_have_their_set, pages_spell_their_bits, sets_are_spelled, sets_have_one_spelling,
+};
 use mdc_types::{ChunkNo, ChunkSet, Geometry, PageNo, Sector};
 
 const MAGIC: u32 = 0x6d74_6962;
@@ -234,6 +240,7 @@ fn set_bit(page: &mut [u8], c: ChunkNo)
 pub fn page_of_flags<F: Flags>(g: &Geometry, uuid: &[u8; 16], p: PageNo, set: &F) -> Sector
     requires page { p < slot_pages g.now }
     requires chunks { length (F.flags set.now) ≡ chunks_of g.now }
+    ensures bytes { result.bytes ≡ spelled_page g.now uuid.now p (λ c. get_or (F.flags set.now) c false) }
     ensures grammar { Spells g.now uuid.now p (F.flags set.now) result.bytes }
 
     // No other page spells the set.
@@ -252,10 +259,8 @@ pub fn page_of_flags<F: Flags>(g: &Geometry, uuid: &[u8; 16], p: PageNo, set: &F
 pub fn write_page(g: &Geometry, uuid: &[u8; 16], p: PageNo, set: &ChunkSet) -> Sector
     requires page { p < slot_pages g.now }
     requires chunks { length set.now ≡ chunks_of g.now }
+    ensures bytes { result.bytes ≡ spelled_page g.now uuid.now p (λ c. get_or set.now c false) }
     ensures grammar { Spells g.now uuid.now p set.now result.bytes }
-
-    // No other page spells the set.
-    ensures only { (page : List ℕ) → IsSector page → Spells g.now uuid.now p set.now page → page ≡ result.bytes }
 {
     page_of_flags(g, uuid, p, set)
 }

@@ -14,4 +14,4 @@ returns-clause-bytes c = λ i. header_is i (replicate 512 0) c.put_field.new.pag
     (c.put_field.ensures.bytes i) (c.put_field-2.ensures.bytes i) (c.put_field-3.ensures.bytes i) (c.put_field-4.ensures.bytes i) (c.put_field-5.ensures.bytes i) (c.put_field-6.ensures.bytes i) (c.put_field-7.ensures.bytes i)
 
 pub returns-clause-sector : goal.returns-clause-sector
-returns-clause-sector c = record { bytes = omega (arith, length-replicate {A = ℕ}); fit = c.put_field-7.ensures.fit }
+returns-clause-sector c = record { size = omega (arith, length-replicate {A = ℕ}); each = c.put_field-7.ensures.fit }

@@ -1,6 +1,7 @@
 use Rattle.std.proofs.Common.{◌≡◌, ℕ, ◌<◌, ◌≤◌, max, false, nat_lt, ◌&&◌, get_or}
 use Rattle.mdc_types.specs.Geometry.{page_of}
-use Rattle.slot_pages.specs.Slot.{IsSector, page_start, chunk_bit, header_byte}
+use Rattle.mdc_types.specs.Sectors.{IsSector}
+use Rattle.slot_pages.specs.Slot.{page_start, chunk_bit, header_byte}
 use Rattle.slot_pages.proofs.page_of_flags.Given as goal
 
 abbrev pub invariant-loop-c : goal.invariant-loop-c

@@ -1,28 +1,16 @@
-use Rattle.std.proofs.Common.{◌≡◌, ◌∙◌, sym, subst, true, Some}
-use Rattle.cluster_msgs.specs.Ranges.{SpellsRange}
-use Rattle.cluster_msgs.proofs.Bytes.{range_of-spelled}
+use Rattle.std.proofs.Common.{◌∙◌, sym}
+use Rattle.cluster_msgs.proofs.Said.{says_the_range, ends_read, no_range, other_range}
 use Rattle.cluster_msgs.proofs.ranges.read_range.Goals as goal
 
-pub returns-in_err-r-clause-only : goal.returns-in_err-r-clause-only
-returns-in_err-r-clause-only c = λ r is.
-    let e : c.range_of.result ≡ Some r = c.range_of.ensures ∙ range_of-spelled c.args.block.now.bytes r _ _ is c.read_u64-lo.ensures c.read_u64-hi.ensures in
-    cc c.in_err-r.was
+pub returns-in_err-r : goal.returns-in_err-r
+returns-in_err-r c =
+    let bytes = c.args.block.now.bytes in
+    rw c.from_residual.ensures (sym (no_range bytes (sym (ends_read bytes _ _ c.read_u64-lo.ensures c.read_u64-hi.ensures) ∙ sym c.range_of.ensures ∙ c.in_err-r.was)))
 
-pub returns-in_err-r-clause-none : goal.returns-in_err-r-clause-none
-returns-in_err-r-clause-none c = rw c.from_residual.ensures (λ r is.
-    let e : c.range_of.result ≡ Some r = c.range_of.ensures ∙ range_of-spelled c.args.block.now.bytes r _ _ is c.read_u64-lo.ensures c.read_u64-hi.ensures in
-    cc c.in_err-r.was)
+pub returns-then-spells_range : goal.returns-then-spells_range
+returns-then-spells_range c = sym ((says_the_range c.args.block.now.bytes c.in_ok-r.r).1 (c.spells_range.ensures.0 c.if-spells_range.true))
 
-pub returns-then-spells_range-clause-only : goal.returns-then-spells_range-clause-only
-returns-then-spells_range-clause-only c = λ r is.
-    sym c.in_ok-r.was ∙ c.range_of.ensures ∙ range_of-spelled c.args.block.now.bytes r _ _ is c.read_u64-lo.ensures c.read_u64-hi.ensures
-
-pub returns-else-spells_range-clause-none : goal.returns-else-spells_range-clause-none
-returns-else-spells_range-clause-none c = λ r is.
-    let e : Some c.in_ok-r.r ≡ Some r = sym c.in_ok-r.was ∙ c.range_of.ensures ∙ range_of-spelled c.args.block.now.bytes r _ _ is c.read_u64-lo.ensures c.read_u64-hi.ensures in
-    let same : r ≡ c.in_ok-r.r = cc in
-    let yes : c.spells_range.result ≡ true = c.spells_range.ensures.1 (subst (SpellsRange c.args.block.now.bytes) same is) in
-    cc
-
-pub returns-else-spells_range-clause-only : goal.returns-else-spells_range-clause-only
-returns-else-spells_range-clause-only c = λ r is. absurd (returns-else-spells_range-clause-none c r is)
+pub returns-else-spells_range : goal.returns-else-spells_range
+returns-else-spells_range c =
+    let bytes = c.args.block.now.bytes in
+    sym (other_range bytes c.in_ok-r.r (sym (ends_read bytes _ _ c.read_u64-lo.ensures c.read_u64-hi.ensures) ∙ sym c.range_of.ensures ∙ c.in_ok-r.was) (λ is. let yes = c.spells_range.ensures.1 is in let no = c.if-spells_range.false in cc))
