@@ -40,7 +40,7 @@ part_at part [] c = refl
 part_at part (x ∷ xs) zero = refl
 part_at part (x ∷ xs) (suc c) = part_at part xs c
 
-no_leg : (l : ℕ) → has_bit 0 l ≡ false
+pub no_leg : (l : ℕ) → has_bit 0 l ≡ false
 no_leg l = ap (λ (b : ℕ). b == 1) (bit_at-zero l)
 
 all_alike : {A : Type 0} (n i : ℕ) (x : A) → get_or (replicate n x) i x ≡ x
@@ -140,7 +140,7 @@ failed_test : (b : Bool) → not b ≡ true → b ≡ false
 failed_test true fails = sym fails
 failed_test false fails = refl
 
-page_aged : (fresh : List ℕ) (p q l : ℕ) → p < length fresh → has_bit (get_or (set fresh p 0) q 0) l ≡ (has_bit (get_or fresh q 0) l && not (q == p))
+pub page_aged : (fresh : List ℕ) (p q l : ℕ) → p < length fresh → has_bit (get_or (set fresh p 0) q 0) l ≡ (has_bit (get_or fresh q 0) l && not (q == p))
 page_aged fresh p q l lt = elim (cases_eq q p) [
   | inl same ↦ grind (arith, nat_tests, get_or-set_same, no_leg l)
   | inr other ↦ grind (arith, nat_tests, get_or-set_other)

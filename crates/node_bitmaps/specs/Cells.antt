@@ -1,6 +1,9 @@
 -- A map as it is kept: a cell for each chunk, and a byte for each page.
-use Rattle.std.specs.Prelude.{◌≡◌, ℕ, ◌+◌, ◌/◌, ◌≤◌, false, List, length, get_or, map}
+use Rattle.std.specs.Prelude.{◌≡◌, ℕ, ◌+◌, ◌/◌, ◌≤◌, ◌==◌, nat_lt, Bool, false, not, ◌&&◌, List, length, get_or, map, is_some}
+use Rattle.dlm_modes.specs.First.{first_such}
 use Rattle.mdc_types.specs.Bits.{has_bit}
+use Rattle.mdc_types.specs.Geometry.{page_of}
+use Rattle.slot_pages.specs.Slot.{chunk_bit}
 use Rattle.node_bitmaps.specs.Bitmap.{Bitmap}
 use Rattle.node_bitmaps.specs.Map.{Map}
 use Rattle.node_bitmaps.specs.declared.cells.Cell.{Cell}
@@ -31,11 +34,26 @@ bits_of cells fresh = record {
   fresh = λ p l. has_bit (get_or fresh p 0) l;
 }
 
+-- one of these chunks is in the set, and has no mark on leg l
+abbrev pub lacks : List Cell → (ℕ → Bool) → ℕ → Bool
+lacks cells chunks l = is_some (first_such
+    (λ c. chunks c && ((cell_at cells c).set && not (has_bit (cell_at cells c).marks l)))
+    0 (length cells))
+
+-- one of so many chunks, and its bit is set in this page p
+abbrev pub page_chunk : ℕ → ℕ → List ℕ → ℕ → Bool
+page_chunk chunks p page c = nat_lt c chunks && (page_of c == p) && chunk_bit page c
+
 -- the same but for marks
 pub record SameButMarks (old new : Cell) : Type 0 where
   pub writes : new.writes ≡ old.writes
   pub set : new.set ≡ old.set
   pub needed : new.needed ≡ old.needed
+
+-- the same but for whether it is set and needed
+pub record SameButNeed (old new : Cell) : Type 0 where
+  pub writes : new.writes ≡ old.writes
+  pub marks : new.marks ≡ old.marks
 
 -- there are as many pages as the chunks take, and no more than a slot has
 pub record IsWhole (cells : List Cell) (fresh : List ℕ) : Type 0 where

@@ -1,12 +1,13 @@
 // The cells of a map, one for each chunk, and its pages, one byte for each.
-ghost use Rattle.std.specs.Prelude.{◌≡◌, ◌<◌, ◌≤◌, ◌-◌, ℕ, ◌==◌, not, ◌&&◌, ◌||◌, if◌then◌else◌, List, false, length, get_or, slice_set};
+ghost use Rattle.std.specs.Prelude.{◌≡◌, ◌<◌, ◌≤◌, ◌-◌, ℕ, ◌==◌, not, ◌&&◌, ◌||◌, if◌then◌else◌, List, false, length, get_or, slice_set, is_some};
 ghost use Rattle.dlm_modes.specs.First.{first_such};
 ghost use Rattle.mdc_types.specs.Bits.{has_bit};
-ghost use Rattle.mdc_types.specs.Geometry.{page_of};
-ghost use Rattle.node_bitmaps.specs.Cells.{no_cell, cell_at, bits_of, SameButMarks};
-ghost use Rattle.node_bitmaps.specs.Bitmap.{with_set, with_need, entered, exited, written, failed, with_new_leg, forgotten};
+ghost use Rattle.mdc_types.specs.Geometry.{Sizes, chunks_of, page_of};
+ghost use Rattle.slot_pages.specs.Slot.{chunk_bit, page_has};
+ghost use Rattle.node_bitmaps.specs.Cells.{no_cell, cell_at, bits_of, page_chunk, SameButMarks, SameButNeed};
+ghost use Rattle.node_bitmaps.specs.Bitmap.{with_set, with_need, entered, exited, written, failed, found_page, with_new_legs, forgotten};
 
-use mdc_types::{ChunkNo, ChunkSet, LegId, PageNo, has_leg, with_leg, without_leg};
+use mdc_types::{ChunkNo, ChunkSet, LegId, PageNo, Sector, has_leg, with_leg, without_leg};
 use slot_pages::{end_of_page, first_chunk};
 
 /// What is kept of a chunk.
@@ -61,28 +62,35 @@ pub fn update_page(cells: &mut [Cell], p: PageNo, leg: LegId, written: bool)
     }
 }
 
-/// No mark is on the leg.
-pub fn clear_leg(cells: &mut [Cell], leg: LegId)
-    requires { leg < 8 }
+// The legs of the first set that aren't in the other.
+fn without(legs: u8, gone: u8) -> u8
+    ensures { (k : ℕ) → has_bit result k ≡ (has_bit legs k && not (has_bit gone k)) }
+{
+    legs & !gone
+}
+
+/// No mark is on these legs.
+pub fn clear_legs(cells: &mut [Cell], legs: u8)
     ensures others { (c : ℕ) → SameButMarks (cell_at cells.old c) (cell_at cells.new c) }
-    ensures marks { (c k : ℕ) → has_bit (cell_at cells.new c).marks k ≡ (has_bit (cell_at cells.old c).marks k && not (k == leg)) }
+    ensures marks { (c k : ℕ) → has_bit (cell_at cells.new c).marks k
+        ≡ (has_bit (cell_at cells.old c).marks k && not (has_bit legs k)) }
 {
     for c in 0..cells.len() {
         let cell = cells[c];
         cells[c] = Cell {
-            marks: with_flag(cell.marks, leg, false),
+            marks: without(cell.marks, legs),
             ..cell
         };
     }
 }
 
-/// No page is fresh on the leg.
-pub fn clear_pages(fresh: &mut [u8], leg: LegId)
-    requires { leg < 8 }
-    ensures { (p k : ℕ) → has_bit (get_or fresh.new p 0) k ≡ (has_bit (get_or fresh.old p 0) k && not (k == leg)) }
+/// No page is fresh on these legs.
+pub fn clear_pages(fresh: &mut [u8], legs: u8)
+    ensures { (p k : ℕ) → has_bit (get_or fresh.new p 0) k
+        ≡ (has_bit (get_or fresh.old p 0) k && not (has_bit legs k)) }
 {
     for p in 0..fresh.len() {
-        fresh[p] = with_flag(fresh[p], leg, false);
+        fresh[p] = without(fresh[p], legs);
     }
 }
 
@@ -124,36 +132,15 @@ pub fn first_needed(cells: &[Cell], from: ChunkNo) -> Option<ChunkNo>
     None
 }
 
-fn is_unmarked(cell: Cell, leg: LegId) -> bool
-    requires { leg < 8 }
-    ensures { result ≡ (cell.set && not (has_bit cell.marks leg)) }
+/// The first chunk of these that is to be copied.
+pub fn first_needed_of(cells: &[Cell], chunks: &ChunkSet) -> Option<ChunkNo>
+    requires { length chunks.now ≡ length cells.now }
+    ensures { result
+        ≡ first_such (λ c. get_or chunks.now c false && (cell_at cells.now c).needed) 0 (length cells.now) }
 {
-    cell.set && !has_leg(cell.marks, leg)
-}
-
-/// The first chunk of the set from `from` on without a mark on the leg.
-pub fn first_unmarked(cells: &[Cell], from: ChunkNo, leg: LegId) -> Option<ChunkNo>
-    requires chunks { length cells.now ≤ 63488 }
-    requires leg { leg < 8 }
-    ensures { result ≡ first_such (λ c. (cell_at cells.now c).set && not (has_bit (cell_at cells.now c).marks leg)) from (length cells.now - from) }
-{
-    for c in from..cells.len() as u32 {
-        if is_unmarked(cells[c as usize], leg) {
+    for c in 0..chunks.chunks() {
+        if chunks.has(c) && cells[c as usize].needed {
             return Some(c);
-        }
-    }
-    None
-}
-
-/// The first page that isn't fresh on the leg.
-pub fn first_stale(fresh: &[u8], leg: LegId) -> Option<PageNo>
-    requires pages { length fresh.now ≤ 16 }
-    requires leg { leg < 8 }
-    ensures { result ≡ first_such (λ p. not (has_bit (get_or fresh.now p 0) leg)) 0 (length fresh.now) }
-{
-    for p in 0..fresh.len() {
-        if !has_leg(fresh[p], leg) {
-            return Some(p as u32);
         }
     }
     None
@@ -231,13 +218,77 @@ pub fn page_failed(cells: &mut [Cell], fresh: &mut [u8], p: PageNo, leg: LegId)
     fresh[p as usize] = with_flag(fresh[p as usize], leg, false);
 }
 
-/// Nothing is known of the leg.
-pub fn new_leg(cells: &mut [Cell], fresh: &mut [u8], leg: LegId)
-    requires { leg < 8 }
-    ensures { bits_of cells.new fresh.new ≡ with_new_leg (bits_of cells.old fresh.old) leg }
+/// Nothing is known of these legs.
+pub fn new_legs(cells: &mut [Cell], fresh: &mut [u8], legs: u8)
+    ensures { bits_of cells.new fresh.new ≡ with_new_legs (bits_of cells.old fresh.old) (has_bit legs) }
 {
-    clear_leg(cells, leg);
-    clear_pages(fresh, leg);
+    clear_legs(cells, legs);
+    clear_pages(fresh, legs);
+}
+
+// Whether the chunk's bit is set in its page.
+fn has_chunk(page: &Sector, c: ChunkNo) -> bool
+    ensures { result ≡ chunk_bit page.now.bytes c }
+{
+    (page.bytes[(256 + c as usize / 8) % 512] >> (c % 8)) & 1 == 1
+}
+
+// Whether the page has a chunk that isn't in the set.
+fn brings_new(cells: &[Cell], p: PageNo, page: &Sector) -> bool
+    requires page { p < 16 }
+    requires chunks { length cells.now ≤ 63488 }
+    ensures { result ≡ is_some (first_such
+        (λ c. page_chunk (length cells.now) p page.now.bytes c && not (cell_at cells.now c).set)
+        0 (length cells.now)) }
+{
+    for c in first_chunk(p)..end_of_page(p).min(cells.len() as u32) {
+        if has_chunk(page, c) && !cells[c as usize].set {
+            return true;
+        }
+    }
+    false
+}
+
+// The chunk joins where its bit is set.
+fn with_chunk(cell: Cell, here: bool) -> Cell
+    ensures { result ≡ record cell { set = cell.set || here; needed = cell.needed || here } }
+{
+    Cell {
+        set: cell.set || here,
+        needed: cell.needed || here,
+        ..cell
+    }
+}
+
+// The page's chunks join the set, and are to be copied.
+fn join(cells: &mut [Cell], p: PageNo, page: &Sector)
+    requires page { p < 16 }
+    requires chunks { length cells.old ≤ 63488 }
+    ensures others { (c : ℕ) → SameButNeed (cell_at cells.old c) (cell_at cells.new c) }
+    ensures set { (c : ℕ) → (cell_at cells.new c).set
+        ≡ ((cell_at cells.old c).set || page_chunk (length cells.old) p page.now.bytes c) }
+    ensures need { (c : ℕ) → (cell_at cells.new c).needed
+        ≡ ((cell_at cells.old c).needed || page_chunk (length cells.old) p page.now.bytes c) }
+{
+    for c in first_chunk(p)..end_of_page(p).min(cells.len() as u32) {
+        cells[c as usize] = with_chunk(cells[c as usize], has_chunk(page, c));
+    }
+}
+
+/// Page `p` was read, and its chunks join. Where that changes the set, the page is fresh no more.
+pub fn found_page(cells: &mut [Cell], fresh: &mut [u8], p: PageNo, page: &Sector)
+    requires page { p < length fresh.old }
+    requires pages { length fresh.old ≤ 16 }
+    requires chunks { length cells.old ≤ 63488 }
+    ensures { (g : Sizes) → length cells.old ≡ chunks_of g
+        → bits_of cells.new fresh.new
+        ≡ found_page g (bits_of cells.old fresh.old) p (page_has g p page.now.bytes) }
+{
+    let changes = brings_new(cells, p, page);
+    join(cells, p, page);
+    if changes {
+        fresh[p as usize] = 0;
+    }
 }
 
 /// The node is gone.

@@ -6,6 +6,7 @@
 
 mod cells;
 mod laws;
+mod marks;
 mod node_map;
 
 pub use laws::bitmap_tells_the_map;

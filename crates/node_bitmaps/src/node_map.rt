@@ -1,13 +1,19 @@
-ghost use Rattle.std.specs.Prelude.{◌≡◌, ◌<◌, ◌≤◌, ◌+◌, ◌-◌, ℕ, List, not, ◌&&◌, true, false, length, get_or, IfOk};
+ghost use Rattle.std.specs.Prelude.{◌≡◌, ◌<◌, ◌≤◌, ◌+◌, ◌-◌, ℕ, List, true, false, length, get_or, IfOk};
 ghost use Rattle.dlm_modes.specs.First.{first_such};
-ghost use Rattle.mdc_types.specs.Geometry.{chunks_of, pages_of, slot_pages};
-ghost use Rattle.slot_pages.specs.Slot.{Spells, IsSector};
-ghost use Rattle.node_bitmaps.specs.Bitmap.{empty, with_set, with_need, entered, exited, written, failed, with_new_leg, forgotten};
+ghost use Rattle.mdc_types.specs.Bits.{has_bit};
+ghost use Rattle.mdc_types.specs.Geometry.{Sizes, chunks_of, pages_of, slot_pages};
+ghost use Rattle.mdc_types.specs.Sectors.{IsSector};
+ghost use Rattle.slot_pages.specs.Slot.{Spells, page_has};
+ghost use Rattle.node_bitmaps.specs.Bitmap.{empty, with_set, with_need, entered, exited, written, failed, with_new_leg, with_new_legs, found_page, forgotten};
+ghost use Rattle.node_bitmaps.specs.Bitmap.{first_set, first_needed, first_needed_of, first_old, old_target, first_unmarked, unmarked_target, unmarked_target_of};
 ghost use Rattle.node_bitmaps.specs.Map.{bitmap_of, chunks_in, pages_in, HasSize};
 
-use crate::cells;
 use crate::cells::Cell;
-use mdc_types::{ChunkNo, ChunkSet, Geometry, LegId, PageNo, Sector, has_leg};
+use crate::{cells, marks};
+use mdc_types::{
+    ChunkNo, ChunkSet, Geometry, LegId, PageNo, Sector, first_page_left, has_leg, leg_left,
+    with_leg,
+};
 use slot_pages::{Flags, page_of_flags};
 use std::alloc::{AllocError, Global};
 use std::marker::Model;
@@ -115,20 +121,72 @@ impl NodeMap {
         cells::first_needed(&self.cells, c)
     }
 
-    /// The first chunk of the set from `c` on whose bit isn't sure to stand on the leg.
-    pub fn first_unmarked_from(&self, c: ChunkNo, leg: LegId) -> Option<ChunkNo>
-        requires { leg < 8 }
-        ensures { result ≡ first_such (λ k. (bitmap_of self.now).set k && not ((bitmap_of self.now).marks k leg)) c (chunks_in self.now - c) }
+    /// The first chunk of the set.
+    pub fn first_set(&self) -> Option<ChunkNo>
+        ensures { (g : Sizes) → chunks_in self.now ≡ chunks_of g
+            → result ≡ first_set g (bitmap_of self.now) }
     {
-        cells::first_unmarked(&self.cells, c, leg)
+        self.first_set_from(0)
     }
 
-    /// The first page in use that isn't fresh on the leg.
-    pub fn stale_page(&self, leg: LegId) -> Option<PageNo>
-        requires { leg < 8 }
-        ensures { result ≡ first_such (λ p. not ((bitmap_of self.now).fresh p leg)) 0 (pages_in self.now) }
+    /// The first chunk to be copied.
+    pub fn first_needed(&self) -> Option<ChunkNo>
+        ensures { (g : Sizes) → chunks_in self.now ≡ chunks_of g
+            → result ≡ first_needed g (bitmap_of self.now) }
     {
-        cells::first_stale(&self.fresh, leg)
+        self.first_needed_from(0)
+    }
+
+    /// The first of these chunks that is to be copied.
+    pub fn first_needed_of(&self, chunks: &ChunkSet) -> Option<ChunkNo>
+        requires { length chunks.now ≡ chunks_in self.now }
+        ensures { (g : Sizes) → chunks_in self.now ≡ chunks_of g
+            → result ≡ first_needed_of g (bitmap_of self.now) (λ c. get_or chunks.now c false) }
+    {
+        cells::first_needed_of(&self.cells, chunks)
+    }
+
+    /// The first page that isn't fresh on one of the legs, and the least such leg.
+    pub fn first_old(&self, targets: u8) -> Option<(PageNo, LegId)>
+        ensures { (g : Sizes) → pages_in self.now ≡ pages_of g
+            → result ≡ first_old g (bitmap_of self.now) (has_bit targets) }
+    {
+        first_page_left(&self.fresh, targets)
+    }
+
+    /// The least of the legs where a page isn't fresh.
+    pub fn old_target(&self, targets: u8) -> Option<LegId>
+        ensures { (g : Sizes) → pages_in self.now ≡ pages_of g
+            → result ≡ old_target g (bitmap_of self.now) (has_bit targets) }
+    {
+        leg_left(&self.fresh, targets)
+    }
+
+    /// The first page with a chunk of the set that has no mark on one of the legs, and the least such
+    /// leg.
+    pub fn first_unmarked(&self, targets: u8) -> Option<(PageNo, LegId)>
+        ensures { (g : Sizes) → HasSize self.now (chunks_of g) (pages_of g)
+            → result ≡ first_unmarked g (bitmap_of self.now) (has_bit targets) }
+    {
+        marks::first_unmarked(&self.cells, self.pages(), targets)
+    }
+
+    /// The least of the legs where the chunk has no mark.
+    pub fn unmarked_target(&self, targets: u8, c: ChunkNo) -> Option<LegId>
+        requires { c < chunks_in self.now }
+        ensures { result ≡ unmarked_target (bitmap_of self.now) (has_bit targets) c }
+    {
+        marks::unmarked_target(self.cells[c as usize], targets)
+    }
+
+    /// The least of the legs where one of these chunks is in the set without a mark.
+    pub fn unmarked_target_of(&self, targets: u8, chunks: &ChunkSet) -> Option<LegId>
+        requires { length chunks.now ≡ chunks_in self.now }
+        ensures { (g : Sizes) → chunks_in self.now ≡ chunks_of g
+            → result ≡ unmarked_target_of g (bitmap_of self.now) (has_bit targets)
+            (λ c. get_or chunks.now c false) }
+    {
+        marks::unmarked_target_of(&self.cells, chunks, targets)
     }
 
     /// Makes `into` the set of the node.
@@ -229,7 +287,26 @@ impl NodeMap {
         ensures bits { bitmap_of self.new ≡ with_new_leg (bitmap_of self.old) leg }
         ensures size { HasSize self.new (chunks_in self.old) (pages_in self.old) }
     {
-        cells::new_leg(&mut self.cells, &mut self.fresh, leg);
+        self.new_legs(with_leg(0, leg));
+    }
+
+    /// These legs become targets: nothing is known of what stands on them.
+    pub fn new_legs(&mut self, legs: u8)
+        ensures bits { bitmap_of self.new ≡ with_new_legs (bitmap_of self.old) (has_bit legs) }
+        ensures size { HasSize self.new (chunks_in self.old) (pages_in self.old) }
+    {
+        cells::new_legs(&mut self.cells, &mut self.fresh, legs);
+    }
+
+    /// Page `p` of a slot was read: its chunks join the set, and are to be copied. Where that changes
+    /// the set, the page is fresh no more.
+    pub fn found_page(&mut self, p: PageNo, page: &Sector)
+        requires { p < pages_in self.old }
+        ensures bits { (g : Sizes) → chunks_in self.old ≡ chunks_of g
+            → bitmap_of self.new ≡ found_page g (bitmap_of self.old) p (page_has g p page.now.bytes) }
+        ensures size { HasSize self.new (chunks_in self.old) (pages_in self.old) }
+    {
+        cells::found_page(&mut self.cells, &mut self.fresh, p, page);
     }
 
     /// The node is gone: what stands on the legs stays, and all else is empty.

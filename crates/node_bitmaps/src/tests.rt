@@ -1,5 +1,10 @@
+ghost use Rattle.std.specs.Prelude.{IfOk};
+ghost use Rattle.mdc_types.specs.Geometry.{chunks_of, pages_of};
+ghost use Rattle.node_bitmaps.specs.Map.{HasSize};
+
 use super::*;
-use mdc_types::{ChunkNo, ChunkSet, Geometry, LegId};
+use mdc_types::{ChunkNo, ChunkSet, Geometry, LegId, Sector};
+use std::alloc::{AllocError, Global};
 use std::process::Abort;
 use std::test::Fail;
 
@@ -113,7 +118,7 @@ fn a_story(rt: HostRuntime) -> Result<(), Fail> {
         assert_eq!(rt; map.first_needed_from(0), *need, "line {line}");
         assert_eq!(rt; shown(&map, 3), (*writes, *three), "line {line}");
         assert_eq!(rt; shown(&map, 5), (0, *five), "line {line}");
-        assert_eq!(rt; map.stale_page(0), *stale, "line {line}");
+        assert_eq!(rt; map.first_old(1).map(|(p, _)| p), *stale, "line {line}");
     }
     Ok(())
 }
@@ -130,8 +135,52 @@ fn whole_sets(rt: HostRuntime) -> Result<(), Fail> {
     assert_eq!(rt; into.first_from(0), Some(6));
     map.set_into(&mut into);
     assert_eq!(rt; into.first_from(0), Some(1));
-    assert_eq!(rt; map.first_unmarked_from(0, 0), Some(1));
+    assert_eq!(rt; (map.first_set(), map.first_needed()), (Some(1), Some(6)));
     assert_eq!(rt; (map.chunks(), g.slot_pages()), (g.chunks(), 8));
     assert_eq!(rt; map.page(&g, &[7; 16], 0).bytes[256], 0x02);
+    Ok(())
+}
+
+// Chunks 1 and 2051 are set, in pages 0 and 1, and page 1 was read with chunks 2051 and 2052.
+fn two_pages(alloc: Global, g: &Geometry) -> Result<NodeMap, AllocError>
+    ensures { IfOk result (λ m. HasSize m (chunks_of g.now) (pages_of g.now)) }
+{
+    let mut map = NodeMap::new(alloc, g)?;
+    let mut page = Sector::ZERO;
+    page.bytes[0] = 0x18;
+    if 2051 < map.chunks() && 1 < map.pages() {
+        map.set(1);
+        map.set(2051);
+        map.page_out(0, 0);
+        map.page_out(1, 2);
+        map.found_page(1, &page);
+    }
+    Ok(map)
+}
+
+#[test]
+fn what_is_left(rt: HostRuntime) -> Result<(), Fail> {
+    let g = Geometry::new(3, 4096, 1)?;
+    let mut map = two_pages(rt.alloc(), &g)?;
+    assert_eq!(rt; (map.chunks(), map.pages()), (4096, 2));
+    // Legs: the first old page, the least leg with one, and the first page with a chunk that is unmarked.
+    for (legs, old, least, unmarked) in [
+        (0b001, Some((1, 0)), Some(0), Some((1, 0))),
+        (0b100, Some((0, 2)), Some(2), Some((0, 2))),
+        (0b101, Some((0, 2)), Some(0), Some((0, 2))),
+        (0, None, None, None),
+    ] {
+        assert_eq!(rt; map.first_old(legs), old, "old of {legs}");
+        assert_eq!(rt; map.old_target(legs), least, "least of {legs}");
+        assert_eq!(rt; map.first_unmarked(legs), unmarked, "unmarked of {legs}");
+    }
+    let mut chunks = ChunkSet::new(rt.alloc(), map.chunks())?;
+    chunks.add(1);
+    chunks.add(2051);
+    assert_eq!(rt; map.first_needed_of(&chunks), Some(2051));
+    assert_eq!(rt; map.unmarked_target_of(0b101, &chunks), Some(0));
+    assert_eq!(rt; map.unmarked_target(0b101, 1), Some(2));
+    map.new_legs(0b011);
+    assert_eq!(rt; map.unmarked_target(0b101, 1), Some(0));
     Ok(())
 }

@@ -6,7 +6,6 @@
 //! project's own.
 #![tactic(auto)]
 
-mod pages;
 mod recovery;
 
 pub use recovery::Recovery;

@@ -1,11 +1,14 @@
-ghost use Rattle.std.specs.Prelude.{◌≡◌, ◌<◌, length, true, slice_set, IfOk};
+ghost use Rattle.std.specs.Prelude.{◌≡◌, ◌<◌, length, IfOk};
 ghost use Rattle.mdc_types.specs.Bits.{has_bit};
-ghost use Rattle.mdc_types.specs.Geometry.{pages_of, chunks_of};
-ghost use Rattle.node_recovery.specs.Pages.{first_page_left, leg_left};
-ghost use Rattle.node_recovery.specs.Progress.{new_recovery, pages_in, chunks_in, bits_of, with_page};
+ghost use Rattle.mdc_types.specs.Geometry.{Sizes, pages_of, chunks_of, slot_pages};
+ghost use Rattle.slot_pages.specs.Slot.{page_has};
+ghost use Rattle.node_recovery.specs.Progress.{pages_in, chunks_in, HasSize, recovering_of, begun, with_read, with_cleared, with_found, unread, uncleared, unread_leg, uncleared_leg};
 
-use crate::pages::{first_page_left, leg_left, mark};
-use mdc_types::{ChunkNo, ChunkSet, Geometry, LegId, NodeId, PageNo, has_leg};
+use mdc_types::{
+    ChunkSet, Geometry, LegId, NodeId, PageNo, Sector, first_page_left, has_leg, leg_left,
+    mark_page,
+};
+use slot_pages::page_bits;
 use std::alloc::{AllocError, Global};
 use std::marker::Model;
 
@@ -42,7 +45,8 @@ impl Recovery {
     /// A recovery of slot `d` of an array of these sizes, with no page read and none cleared.
     pub fn begin(alloc: Global, g: &Geometry, d: NodeId) -> Result<Recovery, AllocError>
         requires { d < 16 }
-        ensures { IfOk result (λ r. r ≡ new_recovery d (pages_of g.now) (chunks_of g.now)) }
+        ensures begun { IfOk result (λ r. recovering_of r ≡ begun d) }
+        ensures size { IfOk result (λ r. HasSize r (pages_of g.now) (chunks_of g.now)) }
     {
         let pages = g.pages() as usize;
         Ok(Recovery {
@@ -56,7 +60,8 @@ impl Recovery {
     /// A new recovery, of slot `d` of the same array, in its place.
     pub fn again(&mut self, d: NodeId)
         requires { d < 16 }
-        ensures { self.new ≡ new_recovery d (pages_in self.old) (chunks_in self.old) }
+        ensures begun { recovering_of self.new ≡ begun d }
+        ensures size { HasSize self.new (pages_in self.old) (chunks_in self.old) }
     {
         self.slot = d;
         self.read.fill(0);
@@ -68,52 +73,61 @@ impl Recovery {
     pub fn slot_read(&mut self, p: PageNo, l: LegId)
         requires page { p < pages_in self.old }
         requires leg { l < 8 }
-        ensures { self.new ≡ record self.old { read = with_page self.old.read p l } }
+        ensures read { recovering_of self.new ≡ with_read (recovering_of self.old) p l }
+        ensures size { HasSize self.new (pages_in self.old) (chunks_in self.old) }
     {
-        mark(&mut self.read, p, l);
+        mark_page(&mut self.read, p, l);
     }
 
     /// Page `p` of the slot was written clean to leg `l`.
     pub fn slot_cleared(&mut self, p: PageNo, l: LegId)
         requires page { p < pages_in self.old }
         requires leg { l < 8 }
-        ensures { self.new ≡ record self.old { cleared = with_page self.old.cleared p l } }
+        ensures cleared { recovering_of self.new ≡ with_cleared (recovering_of self.old) p l }
+        ensures size { HasSize self.new (pages_in self.old) (chunks_in self.old) }
     {
-        mark(&mut self.cleared, p, l);
+        mark_page(&mut self.cleared, p, l);
     }
 
-    /// Chunk `c` was found in a page that was read.
-    pub fn note(&mut self, c: ChunkNo)
-        requires { c < chunks_in self.old }
-        ensures { self.new ≡ record self.old { found = slice_set self.old.found c true } }
+    /// The chunks of page `p` were found, which was read so.
+    pub fn note_page(&mut self, g: &Geometry, p: PageNo, page: &Sector)
+        requires page { p < slot_pages g.now }
+        requires chunks { chunks_in self.old ≡ chunks_of g.now }
+        ensures found { recovering_of self.new
+            ≡ with_found (recovering_of self.old) (page_has g.now p page.now.bytes) }
+        ensures size { HasSize self.new (pages_in self.old) (chunks_in self.old) }
     {
-        self.found.add(c);
+        page_bits(g, p, page, &mut self.found);
     }
 
-    /// The least page that wasn't read from each leg of the set, and the least such leg.
+    /// The first page that wasn't read from each leg of the set, and the least such leg.
     pub fn unread(&self, working: u8) -> Option<(PageNo, LegId)>
-        ensures { result ≡ first_page_left (bits_of self.now.read) (has_bit working) (pages_in self.now) }
+        ensures { (g : Sizes) → pages_in self.now ≡ pages_of g
+            → result ≡ unread g (recovering_of self.now) (has_bit working) }
     {
         first_page_left(&self.read, working)
     }
 
-    /// The least page that wasn't cleared on each leg of the set, and the least such leg.
+    /// The first page that wasn't cleared on each leg of the set, and the least such leg.
     pub fn uncleared(&self, targets: u8) -> Option<(PageNo, LegId)>
-        ensures { result ≡ first_page_left (bits_of self.now.cleared) (has_bit targets) (pages_in self.now) }
+        ensures { (g : Sizes) → pages_in self.now ≡ pages_of g
+            → result ≡ uncleared g (recovering_of self.now) (has_bit targets) }
     {
         first_page_left(&self.cleared, targets)
     }
 
     /// The least leg of the set from which a page wasn't read.
     pub fn unread_leg(&self, working: u8) -> Option<LegId>
-        ensures { result ≡ leg_left (bits_of self.now.read) (has_bit working) (pages_in self.now) }
+        ensures { (g : Sizes) → pages_in self.now ≡ pages_of g
+            → result ≡ unread_leg g (recovering_of self.now) (has_bit working) }
     {
         leg_left(&self.read, working)
     }
 
     /// The least leg of the set on which a page wasn't cleared.
     pub fn uncleared_leg(&self, targets: u8) -> Option<LegId>
-        ensures { result ≡ leg_left (bits_of self.now.cleared) (has_bit targets) (pages_in self.now) }
+        ensures { (g : Sizes) → pages_in self.now ≡ pages_of g
+            → result ≡ uncleared_leg g (recovering_of self.now) (has_bit targets) }
     {
         leg_left(&self.cleared, targets)
     }
@@ -122,7 +136,7 @@ impl Recovery {
     pub fn is_read(&self, p: PageNo, l: LegId) -> bool
         requires page { p < pages_in self.now }
         requires leg { l < 8 }
-        ensures { result ≡ bits_of self.now.read p l }
+        ensures { result ≡ (recovering_of self.now).read p l }
     {
         has_leg(self.read[p as usize], l)
     }
@@ -131,7 +145,7 @@ impl Recovery {
     pub fn is_cleared(&self, p: PageNo, l: LegId) -> bool
         requires page { p < pages_in self.now }
         requires leg { l < 8 }
-        ensures { result ≡ bits_of self.now.cleared p l }
+        ensures { result ≡ (recovering_of self.now).cleared p l }
     {
         has_leg(self.cleared[p as usize], l)
     }
@@ -197,6 +211,12 @@ mod tests {
         // 4,096 chunks have two pages.
         let g = Geometry::new(3, 4096, 1)?;
         let mut recovery = Recovery::begin(rt.alloc(), &g, 2)?;
+        // Chunk 2051 is the fourth of page 1.
+        let mut page = Sector::ZERO;
+        page.bytes[0] = 0x08;
+        assert!(rt; 1 < g.slot_pages());
+        recovery.note_page(&g, 1, &page);
+        assert_eq!(rt; recovery.found().first_from(0), Some(2051));
         assert_eq!(rt; recovery.pages(), 2);
         // A call, and then what is left to read from legs 0 and 2, and to clear on legs 1 and 2.
         for (c, unread, unread_leg, uncleared, uncleared_leg) in [
