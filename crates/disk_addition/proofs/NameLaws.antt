@@ -4,7 +4,8 @@ use Rattle.std.specs.Str.{bytes_eq}
 use Rattle.std.specs.Cmp.Lexicographic.{bytes_decides}
 use Rattle.dlm_modes.specs.First.{first_such}
 use Rattle.dlm_modes.proofs.FirstLaws.{first_such_some, first_such_none}
-use Rattle.disk_addition.specs.Names.{Names, device_uuid, leg_named, IsNamed}
+use Rattle.mdc_types.specs.Names.{device_uuid}
+use Rattle.disk_addition.specs.Names.{Names, leg_named, IsNamed}
 
 -- one more number that fails is not the first
 pub first_such_before : (p : ℕ → Bool) (i n : ℕ) → p (i + n) ≡ false → first_such p i (suc n) ≡ first_such p i n

@@ -1,15 +1,13 @@
 -- What a wish asks of the addition and of its leg's role.
 use Rattle.std.specs.Prelude.{ℕ, ◌<◌, ◌==◌, Bool, true, false, ◌&&◌, ◌||◌, Option, None}
 use Rattle.dlm_modes.specs.Guards.{unless, or_then}
-use Rattle.mdc_types.specs.Roles.{role_of}
+use Rattle.mdc_types.specs.Roles.{is_faulty, is_rebuilding, is_spare}
 use Rattle.mdc_types.specs.declared.events.Wish.{Wish}
 use Rattle.mdc_types.specs.declared.events.Wish.TheVariants as wishes
 use Rattle.mdc_types.specs.declared.refusals.Part.TheVariants as parts
 use Rattle.mdc_types.specs.declared.refusals.Refusal.{Refusal}
 use Rattle.mdc_types.specs.declared.refusals.Refusal.TheVariants.{NotPhase, NotRole}
 use Rattle.mdc_types.specs.declared.roles.Role.{Role}
-use Rattle.mdc_types.specs.declared.roles.Role.TheVariants as role
-use Rattle.mdc_types.specs.declared.roles.Roles.{Roles}
 use Rattle.disk_addition.specs.Additions.{word_of}
 use Rattle.disk_addition.specs.declared.addition.Addition.{Addition}
 use Rattle.disk_addition.specs.declared.addition.Addition.TheVariants.{Announced, Removing, ReAdd}
@@ -39,38 +37,28 @@ abbrev pub is_announced : Addition → ℕ → Bool
 is_announced (Announced m) l = m == l
 is_announced a l = false
 
--- the addition is the one that the wish needs; an announced leg may rebuild only where the node holds EX on no-new-dev
+-- the addition is the one that the wish needs; an announced leg may rebuild only where the node
+-- holds EX on no-new-dev
 abbrev pub suits : Addition → Bool → Wish → Bool
 suits a holds_ex (wishes.Spare l) = is_removing a l
 suits a holds_ex (wishes.Rebuild l) = (is_announced a l && holds_ex) || is_readd a l
 suits a holds_ex wish = true
-
-abbrev pub is_spare : Role → Bool
-is_spare role.Spare = true
-is_spare r = false
-
-abbrev pub is_faulty : Role → Bool
-is_faulty role.Faulty = true
-is_faulty r = false
-
-abbrev pub is_rebuilding : Role → Bool
-is_rebuilding role.Rebuilding = true
-is_rebuilding r = false
 
 -- refuses where the test of the leg's role fails
 abbrev pub unless_role : (Role → Bool) → ℕ → Role → Option Refusal
 unless_role test l r = unless (test r) (NotRole l r)
 
 -- refuses where the wish's leg has another role than the wish wants
-abbrev pub role_refusal : Addition → Roles → Wish → Option Refusal
-role_refusal a roles (wishes.Spare l) = unless_role is_faulty l (role_of roles l)
-role_refusal a roles (wishes.Rebuild l) = unless_role (λ r. is_spare r || (is_faulty r && is_readd a l)) l (role_of roles l)
-role_refusal a roles (wishes.Work l) = unless_role is_rebuilding l (role_of roles l)
-role_refusal a roles (wishes.NewDisk l) = unless_role is_spare l (role_of roles l)
-role_refusal a roles (wishes.Remove l) = unless_role is_faulty l (role_of roles l)
-role_refusal a roles (wishes.ReAdd l) = unless_role is_faulty l (role_of roles l)
-role_refusal a roles wish = None
+abbrev pub role_refusal : Addition → (ℕ → Role) → Wish → Option Refusal
+role_refusal a role (wishes.Spare l) = unless_role is_faulty l (role l)
+role_refusal a role (wishes.Rebuild l) = unless_role (λ r. is_spare r || (is_faulty r && is_readd a l)) l (role l)
+role_refusal a role (wishes.Work l) = unless_role is_rebuilding l (role l)
+role_refusal a role (wishes.NewDisk l) = unless_role is_spare l (role l)
+role_refusal a role (wishes.Remove l) = unless_role is_faulty l (role l)
+role_refusal a role (wishes.ReAdd l) = unless_role is_faulty l (role l)
+role_refusal a role wish = None
 
--- what refuses a wish: the addition, then the role
-abbrev pub wish_refusal : Addition → Roles → Bool → Wish → Option Refusal
-wish_refusal a roles holds_ex wish = or_then (unless (suits a holds_ex wish) (NotPhase parts.Addition (word_of a))) (role_refusal a roles wish)
+-- what refuses a wish: the addition, then the role of its leg
+abbrev pub wish_refusal : Addition → (ℕ → Role) → Bool → Wish → Option Refusal
+wish_refusal a role holds_ex wish =
+    or_then (unless (suits a holds_ex wish) (NotPhase parts.Addition (word_of a))) (role_refusal a role wish)

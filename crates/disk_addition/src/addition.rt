@@ -36,6 +36,7 @@ fn expect_role(is_right: bool, l: LegId, role: Role) -> Result<(), Refusal>
 }
 
 impl Addition {
+    ghost use Rattle.mdc_types.specs.Roles.{role_of};
     ghost use Rattle.disk_addition.specs.Additions.{word_of, after};
     ghost use Rattle.disk_addition.specs.Wishes.{HasLeg, suits, role_refusal, wish_refusal};
 
@@ -89,7 +90,7 @@ impl Addition {
     // Whether the wish's leg has the role that it needs.
     fn may_by_role(&self, wish: &Wish, roles: &Roles) -> Result<(), Refusal>
         requires { HasLeg wish.now }
-        ensures { result_err result ≡ role_refusal self.now roles.now wish.now }
+        ensures { result_err result ≡ role_refusal self.now (role_of roles.now) wish.now }
     {
         match wish {
             Wish::Spare(l) | Wish::Remove(l) | Wish::ReAdd(l) => {
@@ -119,7 +120,7 @@ impl Addition {
     /// `NotRole` where the leg hasn't the role that the wish starts from.
     pub fn may(&self, wish: &Wish, roles: &Roles, holds_ex: bool) -> Result<(), Refusal>
         requires { HasLeg wish.now }
-        ensures { result_err result ≡ wish_refusal self.now roles.now holds_ex wish.now }
+        ensures { result_err result ≡ wish_refusal self.now (role_of roles.now) holds_ex wish.now }
     {
         if !self.suits(wish, holds_ex) {
             return Err(Refusal::NotPhase(Part::Addition, self.word()));

@@ -1,5 +1,6 @@
-ghost use Rattle.std.specs.Prelude.{◌≡◌, ◌<◌, ◌≤◌, ◌↔◌, ℕ, Some, IfOk};
-ghost use Rattle.disk_addition.specs.Names.{device_uuid, leg_named, IsNamed};
+ghost use Rattle.std.specs.Prelude.{◌≡◌, ◌↔◌, ℕ, Some, IfOk};
+ghost use Rattle.mdc_types.specs.Names.{device_uuid};
+ghost use Rattle.disk_addition.specs.Names.{leg_named, IsNamed};
 
 use indexmap::IndexMap;
 use mdc_types::LegId;
@@ -40,10 +41,8 @@ impl Model for Devices {
 }
 
 impl Devices {
-    /// The table of an array with this uuid and 2 to 8 legs.
+    /// The table of an array with this uuid and so many legs.
     pub fn open(alloc: Global, legs: u8, uuid: &[u8; 16]) -> Result<Devices, AllocError>
-        requires least { 2 ≤ legs }
-        requires most { legs ≤ 8 }
         ensures { IfOk result (λ d. d ≡ record { uuid = uuid.now; legs = legs }) }
     {
         let mut by_name = IndexMap::with_capacity(alloc, legs as usize)?;

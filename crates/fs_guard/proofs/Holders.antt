@@ -1,12 +1,9 @@
 -- Who holds a sector after a write has begun or ended, and after a death.
-use Rattle.std.proofs.Common.{◌≡◌, ℕ, ◌==◌, ◌&&◌, ◌||◌, ◌≤◌, Bool, true, false, not, filter, List, [], ◌∷◌, ◌++◌, Option, Some, None, length, refl, arith, if◌then◌else◌}
+use Rattle.std.proofs.Common.{◌≡◌, ℕ, ◌==◌, ◌&&◌, ◌||◌, ◌≤◌, Bool, true, false, not, filter, List, [], ◌∷◌, ◌++◌, Some, None, length, refl, arith, if◌then◌else◌}
+use Rattle.std.proofs.Math.Path.{fun_ext}
+use Rattle.std.proofs.lemmas.Bool.Decides.{nat_tests}
 use Rattle.fs_guard.specs.declared.Writer.{Writer}
-use Rattle.fs_guard.specs.Writers.{writer, holder, without, without_node, AreApart}
-
--- what is left of a holder where node n's write ends
-abbrev pub unless_node : ℕ → Option ℕ → Option ℕ
-unless_node n None = None
-unless_node n (Some m) = if m == n then None else Some m
+use Rattle.fs_guard.specs.Writers.{writer, holder, without, without_node, AreApart, unless_node, holders_of, begun, ended, died}
 
 pub holder-begin : (t s n : ℕ) (ws : List Writer) → holder s ws ≡ None → holder t (ws ++ writer s n ∷ []) ≡ (if t == s then Some n else holder t ws)
 holder-begin t s n [] none = grind arith
@@ -19,6 +16,19 @@ holder-end t s n (w ∷ ws) apart = grind (arith, apart, holder-end t s n ws)
 pub holder-die : (t n : ℕ) (ws : List Writer) → AreApart ws → holder t (without_node n ws) ≡ unless_node n (holder t ws)
 holder-die t n [] apart = grind arith
 holder-die t n (w ∷ ws) apart = grind (arith, apart, holder-die t n ws)
+
+-- the same by sector
+pub holders-begin : (s n : ℕ) (ws : List Writer) → holder s ws ≡ None → holders_of (ws ++ writer s n ∷ []) ≡ begun (holders_of ws) s n
+holders-begin s n ws none = fun_ext (λ t. holder-begin t s n ws none)
+
+ended_at : (t s n : ℕ) (ws : List Writer) → AreApart ws → holder t (without s n ws) ≡ ended (holders_of ws) s n t
+ended_at t s n ws apart = grind (arith, nat_tests, holder-end t s n ws apart)
+
+pub holders-end : (s n : ℕ) (ws : List Writer) → AreApart ws → holders_of (without s n ws) ≡ ended (holders_of ws) s n
+holders-end s n ws apart = fun_ext (λ t. ended_at t s n ws apart)
+
+pub holders-die : (n : ℕ) (ws : List Writer) → AreApart ws → holders_of (without_node n ws) ≡ died (holders_of ws) n
+holders-die n ws apart = fun_ext (λ t. holder-die t n ws apart)
 
 -- the sector of a write that has ended is free, and no other changes
 pub free-end : (s n : ℕ) (ws : List Writer) → AreApart ws → holder s ws ≡ Some n → holder s (without s n ws) ≡ None

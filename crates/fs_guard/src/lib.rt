@@ -2,7 +2,7 @@
 #![tactic(auto)]
 
 ghost use Rattle.std.specs.Prelude.{◌≡◌, ◌<◌, ◌≤◌, ◌↔◌, [], ◌∷◌, ◌++◌, length, Some, None, IsTrue, MatchResult, OnOk, OnErr};
-ghost use Rattle.fs_guard.specs.Writers.{writer, holder, without, without_node, AreApart};
+ghost use Rattle.fs_guard.specs.Writers.{writer, holder, without, without_node, AreApart, holders_of, begun, ended, died};
 
 use arrayvec::ArrayVec;
 use mdc_types::{NodeId, SectorNo};
@@ -24,7 +24,8 @@ pub const MOST: usize = 256;
 
 /// The live writes of all nodes: at most one of a sector, and at most `MOST` in all. No call takes memory.
 ///
-/// Contracts see the list of the writers, in the order in which their writes began.
+/// Contracts see the list of the writers, in the order in which their writes began, and speak also of
+/// the function from sectors to nodes that it stands for.
 #[derive(Drop)]
 pub struct Guard {
     writers: ArrayVec<Writer, MOST>,
@@ -81,11 +82,12 @@ impl Guard {
     }
 
     /// The node begins a write of the sector. It is `InFlight` exactly where a node has a live write of
-    /// it, and then nothing changes.
+    /// it, and then nothing changes. Room is needed only where no node has one.
     pub fn begin(&mut self, s: SectorNo, n: NodeId) -> Result<(), InFlight>
-        requires { length self.old < MOST }
+        requires { holder s self.old ≡ None → length self.old < MOST }
         ensures free { MatchResult result (λ _. holder s self.old ≡ None) (λ e. holder s self.old ≡ Some e.0) }
         ensures ok { OnOk result (self.new ≡ self.old ++ writer s n ∷ []) }
+        ensures holders { OnOk result (holders_of self.new ≡ begun (holders_of self.old) s n) }
         ensures err { OnErr result (self.new ≡ self.old) }
     {
         if let Some(m) = self.holder(s) {
@@ -97,14 +99,16 @@ impl Guard {
 
     /// The node's write of the sector has ended. Nothing changes where it has none.
     pub fn end(&mut self, s: SectorNo, n: NodeId)
-        ensures { self.new ≡ without s n self.old }
+        ensures writers { self.new ≡ without s n self.old }
+        ensures holders { holders_of self.new ≡ ended (holders_of self.old) s n }
     {
         self.writers.retain(|w| w.sector != s || w.node != n);
     }
 
     /// The node has died, and with it all its writes.
     pub fn die(&mut self, n: NodeId)
-        ensures { self.new ≡ without_node n self.old }
+        ensures writers { self.new ≡ without_node n self.old }
+        ensures holders { holders_of self.new ≡ died (holders_of self.old) n }
     {
         self.writers.retain(|w| w.node != n);
     }

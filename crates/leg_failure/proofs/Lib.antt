@@ -1,2 +1,3 @@
 pub mod SetLaws
 pub mod ViewLaws
+pub mod LegsLeftLaws

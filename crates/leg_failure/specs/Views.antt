@@ -58,9 +58,26 @@ other_leg v l = first_such (λ j. works v j && not (j == l)) 0 8
 abbrev pub is_last : NodeView → ℕ → Bool
 is_last v l = works v l && is_none (other_leg v l)
 
--- the role that the node proposes for the leg
+-- the least leg that works, that is lost, and that is unacked
+abbrev pub working_leg : NodeView → Option ℕ
+working_leg v = first_such (works v) 0 8
+
+abbrev pub lost_leg : NodeView → Option ℕ
+lost_leg v = first_such v.lost 0 8
+
+abbrev pub unacked_leg : NodeView → Option ℕ
+unacked_leg v = first_such (is_unacked v) 0 8
+
+-- the role that the node proposes for the leg, and all of them
 abbrev pub proposed_role : NodeView → ℕ → Role
 proposed_role v l = if v.lost l then given_up (v.role l) else v.role l
+
+abbrev pub proposed : NodeView → ℕ → Role
+proposed v = proposed_role v
+
+-- the legs that became targets when the first view became the second
+abbrev pub fresh_targets : NodeView → NodeView → ℕ → Bool
+fresh_targets v w l = is_target w l && not (is_target v l)
 
 -- What becomes of a view.
 

@@ -9,6 +9,9 @@ mod roles;
 mod tests;
 mod view;
 
-pub use laws::takers_have_legs;
+pub use laws::{
+    changes_keep_working, finishers_have_legs, legs_are_found, losers_have_legs,
+    proposers_have_legs, roles_are_found, takers_have_legs,
+};
 pub use roles::{least_leg, with_role, working_of, written_of};
 pub use view::{Lose, View};

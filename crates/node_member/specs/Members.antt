@@ -1,6 +1,7 @@
 -- The members of a cluster: who is live, whose bitmap slot waits for its recovery, and the events numbers.
 -- For each call: what refuses it, and what becomes of the record.
-use Rattle.std.specs.Prelude.{ℕ, nat_le, Bool, true, false, not, ◌&&◌, ◌+◌, [], ◌∷◌, Option, Some, None}
+use Rattle.std.specs.Prelude.{ℕ, nat_le, Bool, true, false, not, ◌&&◌, ◌+◌, [], ◌∷◌, Option, Some, None, is_none}
+use Rattle.dlm_modes.specs.First.{first_such}
 use Rattle.dlm_modes.specs.Guards.{unless, or_then, first_of}
 use Rattle.dlm_modes.specs.Points.{with_at}
 use Rattle.mdc_types.specs.Bits.{has_bit}
@@ -52,6 +53,16 @@ begin_refusal m d = or_then (unless (m.pending d) (NotPending d)) (heir_refusal 
 -- what was read is no older than the last completed number
 abbrev pub fresh_refusal : Members → ℕ → Option MemberError
 fresh_refusal m read = unless (nat_le m.completed read) (Stale read m.completed)
+
+-- Look-ups.
+
+-- the least of the sixteen slots that is pending
+abbrev pub first_pending : Members → Option ℕ
+first_pending m = first_such m.pending 0 16
+
+-- the least whose recovery may begin
+abbrev pub first_to_begin : Members → Option ℕ
+first_to_begin m = first_such (λ d. is_none (begin_refusal m d)) 0 16
 
 -- Effects.
 

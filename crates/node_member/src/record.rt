@@ -1,8 +1,8 @@
-ghost use Rattle.std.specs.Prelude.{◌≡◌, ◌<◌, ◌^◌, true, IfSome, OnOk, OnErr};
+ghost use Rattle.std.specs.Prelude.{◌≡◌, ◌<◌, ◌^◌, true, is_none, IfSome, OnOk, OnErr};
 ghost use Rattle.std.specs.Result.{result_err};
 ghost use Rattle.dlm_modes.specs.Points.{with_at};
 ghost use Rattle.mdc_types.specs.Bits.{has_bit};
-ghost use Rattle.node_member.specs.Members.{new_members, fenced, join_refusal, die_refusal, begin_refusal, fresh_refusal, joined, left, died, begun, ended, drawn_one, completed_at};
+ghost use Rattle.node_member.specs.Members.{new_members, fenced, join_refusal, die_refusal, begin_refusal, fresh_refusal, first_pending, first_to_begin, joined, left, died, begun, ended, drawn_one, completed_at};
 ghost use Rattle.node_member.specs.Parts.{members_of};
 
 use crate::MemberError;
@@ -227,6 +227,39 @@ impl Record {
             return Err(MemberError::HeirPending(h));
         }
         Ok(())
+    }
+
+    /// The least pending slot.
+    pub fn first_pending(&self) -> Option<NodeId>
+        ensures slot { result ≡ first_pending (members_of self.now) }
+        ensures node { IfSome result (λ d. d < 16) }
+    {
+        for d in 0..16 {
+            if self.pending(d) {
+                return Some(d);
+            }
+        }
+        None
+    }
+
+    /// The least slot whose recovery may begin.
+    pub fn first_to_begin(&self) -> Option<NodeId>
+        ensures slot { result ≡ first_to_begin (members_of self.now) }
+        ensures node { IfSome result (λ d. d < 16) }
+    {
+        for d in 0..16 {
+            if self.can_begin(d) {
+                return Some(d);
+            }
+        }
+        None
+    }
+
+    fn can_begin(&self, d: NodeId) -> bool
+        requires { d < 16 }
+        ensures { result ≡ is_none (begin_refusal (members_of self.now) d) }
+    {
+        self.may_begin(d).is_ok()
     }
 
     /// Node `n` begins the recovery of slot `d`, and is its heir. `NotPending` where the slot isn't

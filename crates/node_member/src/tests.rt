@@ -89,6 +89,14 @@ fn calls(rt: HostRuntime) {
         assert_eq!(rt; record.heir(3), *heir, "line {line}");
     }
     assert!(rt; record.pending(8) && !record.fenced(8) && !record.dead(3) && !record.live(2));
+    // Slot 0 waits for its heir's own slot.
+    for call in [Call::Die(0), Call::Begin(3, 0), Call::Die(3)] {
+        assert_eq!(rt; error_of(&rt, &mut record, call), None);
+    }
+    assert_eq!(rt;
+        (record.first_pending(), record.first_to_begin()),
+        (Some(0), Some(3))
+    );
 }
 
 #[test]

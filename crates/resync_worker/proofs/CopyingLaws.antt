@@ -1,21 +1,32 @@
--- A pass after a sector was settled.
-use Rattle.std.proofs.Common.{◌≡◌, ℕ, List, get_or, Bool, true, false, Some, refl, arith, if◌then◌else◌}
+-- A pass after a call, as functions.
+use Rattle.std.proofs.Common.{◌≡◌, ℕ, ◌<◌, ◌≤◌, ◌^◌, ◌==◌, Bool, false, not, ◌&&◌, inl, inr, arith, if◌then◌else◌}
+use Rattle.std.proofs.Math.Path.{fun_ext}
+use Rattle.std.proofs.lemmas.Bool.{cases_lt}
 use Rattle.std.proofs.lemmas.Bool.Decides.{nat_tests}
-use Rattle.std.proofs.lemmas.Grind.{common_steps}
-use Rattle.std.specs.Prelude.{slice_set}
+use Rattle.std.proofs.lemmas.Nat.Bits.{bit_at-lt, bit_at_and, bit_at_above}
+use Rattle.std.specs.Int.Bits.{bit_and}
 use Rattle.dlm_modes.specs.Points.{with_at}
-use Rattle.resync_worker.specs.Sectors.{chunk_of, ends_chunk, todo_after}
-use Rattle.resync_worker.specs.Copying.{Copying, wants, settled}
-use Rattle.resync_worker.specs.declared.buffer.Buffer.{Buffer}
+use Rattle.mdc_types.specs.Bits.{has_bit}
 
--- a flag that is taken out
-get_or-out : (flags : List Bool) (k c : ℕ) → get_or (slice_set flags k false) c false ≡ with_at (λ j. get_or flags j false) k false c
-get_or-out flags k c = grind (arith, common_steps, nat_tests)
+-- the legs of both sets
+has_bit-and : (set other k : ℕ) → has_bit (bit_and set other) k ≡ (has_bit set k && has_bit other k)
+has_bit-and set other k = grind (arith, nat_tests, bit_at_and set other k, bit_at-lt set k, bit_at-lt other k)
 
--- the chunks that are to be copied, as a function
-pub wants-settled : (p : Copying) (b : Buffer) (c : ℕ) → wants (settled p (Some b)) c ≡ todo_after p.sizes (wants p) b.sector c
-wants-settled p b c =
-    elim (ends_chunk p.sizes b.sector) as (λ e. get_or (if e then slice_set p.todo (chunk_of p.sizes b.sector) false else p.todo) c false ≡ (if e then with_at (wants p) (chunk_of p.sizes b.sector) false else wants p) c) [
-      | true ↦ get_or-out p.todo (chunk_of p.sizes b.sector) c
-      | false ↦ refl
-    ]
+pub legs-and : (set other : ℕ) → has_bit (bit_and set other) ≡ (λ k. has_bit set k && has_bit other k)
+legs-and set other = fun_ext (has_bit-and set other)
+
+-- the legs of a set without one
+without_at : (was now : Bool) (k l : ℕ) → now ≡ (was && not (k == l)) → now ≡ (if k == l then false else was)
+without_at was now k l e = grind (arith, nat_tests)
+
+above_at : (was now : Bool) (k l : ℕ) → l < 8 → 8 ≤ k → was ≡ false → now ≡ false → now ≡ (if k == l then false else was)
+above_at was now k l lt le e f = grind (arith, nat_tests)
+
+has_bit-past : (set k : ℕ) → set < 2 ^ 8 → 8 ≤ k → has_bit set k ≡ false
+has_bit-past set k small past = grind (arith, nat_tests, bit_at_above set 8 k small past)
+
+pub legs-out : (set rest l : ℕ) → l < 8 → set < 2 ^ 8 → rest < 2 ^ 8 → ((k : ℕ) → k < 8 → has_bit rest k ≡ (has_bit set k && not (k == l))) → has_bit rest ≡ with_at (has_bit set) l false
+legs-out set rest l leg small less each = fun_ext (λ k. elim (cases_lt k 8) [
+  | inl below ↦ without_at (has_bit set k) (has_bit rest k) k l (each k below)
+  | inr past ↦ above_at (has_bit set k) (has_bit rest k) k l leg past (has_bit-past set k small past) (has_bit-past rest k less past)
+])

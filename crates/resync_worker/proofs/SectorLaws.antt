@@ -8,9 +8,9 @@ use Rattle.std.specs.Int.{div_ceil}
 use Rattle.std.specs.Prelude.{nat_lt, IfSome}
 use Rattle.dlm_modes.specs.First.{first_such}
 use Rattle.dlm_modes.proofs.FirstLaws.{IsFirst, first_such_some, first_such_none}
-use Rattle.mdc_types.specs.Geometry.{Sizes, parts_of, chunks_of, chunk_start, chunk_end}
+use Rattle.mdc_types.specs.Geometry.{Sizes, parts_of, chunks_of, chunk_of, chunk_start, chunk_end}
 use Rattle.mdc_types.specs.Ranges.{holds}
-use Rattle.resync_worker.specs.Sectors.{chunk_of, first_chunk_in, place_in, is_edge, ends_chunk, reached_after, is_behind}
+use Rattle.resync_worker.specs.Sectors.{first_chunk_in, place_in, is_edge, ends_chunk, reached_after, is_behind}
 
 -- Parts of a size.
 

@@ -1,13 +1,9 @@
 -- Which sector of an array is copied next, chunk by chunk.
-use Rattle.std.specs.Prelude.{ℕ, ◌+◌, ◌/◌, ◌%◌, ◌==◌, Bool, false, ◌&&◌, ◌||◌, if◌then◌else◌, Option, Some, None, option_map}
+use Rattle.std.specs.Prelude.{ℕ, ◌+◌, ◌%◌, ◌==◌, Bool, false, ◌&&◌, ◌||◌, if◌then◌else◌, Option, Some, None, option_map}
 use Rattle.dlm_modes.specs.First.{first_such}
 use Rattle.dlm_modes.specs.Points.{with_at}
-use Rattle.mdc_types.specs.Geometry.{Sizes, chunks_of, chunk_start, chunk_end}
+use Rattle.mdc_types.specs.Geometry.{Sizes, chunks_of, chunk_of, chunk_start, chunk_end}
 use Rattle.mdc_types.specs.Ranges.{holds}
-
--- the chunk of a sector
-abbrev pub chunk_of : Sizes → ℕ → ℕ
-chunk_of g s = s / g.chunk
 
 -- the first chunk that is to be copied
 abbrev pub first_chunk_left : Sizes → (ℕ → Bool) → Option ℕ

@@ -1,10 +1,10 @@
-ghost use Rattle.std.specs.Prelude.{◌≡◌, ◌<◌, ℕ, length, true, not, ◌==◌, ◌&&◌, is_some, IsNone, IsSome, IfSome, option_map};
+ghost use Rattle.std.specs.Prelude.{◌≡◌, ◌<◌, length, get_or, true, false, not, ◌&&◌, is_some, IsNone, IsSome, IfSome, option_map};
 ghost use Rattle.dlm_modes.specs.First.{first_such};
 ghost use Rattle.mdc_types.specs.Bits.{has_bit};
-ghost use Rattle.mdc_types.specs.Geometry.{chunks_of, chunk_end};
+ghost use Rattle.mdc_types.specs.Geometry.{chunks_of, chunk_of, chunk_end};
 ghost use Rattle.mdc_types.specs.Ranges.{holds};
-ghost use Rattle.resync_worker.specs.Sectors.{chunk_of, first_chunk_left, first_chunk_in, place_in, is_edge};
-ghost use Rattle.resync_worker.specs.Copying.{new_pass, wants, next_of, filled, done_on, missing_of, completed_of, settled, restarted};
+ghost use Rattle.resync_worker.specs.Sectors.{first_chunk_in, place_in, is_edge};
+ghost use Rattle.resync_worker.specs.Copying.{passing_of, next_in, first_todo, missing_of, completed_of, begun, filled, copied, settled_of, restarted, uncovered, covering_only};
 
 use crate::Buffer;
 use mdc_types::{
@@ -17,6 +17,9 @@ use std::marker::Model;
 ///
 /// Sets of legs have one bit for each leg. A window is a range of sectors in which nobody writes: chunks
 /// are copied that begin in it, in rising order, and each from its first sector on.
+///
+/// Contracts see the parts, and speak of the pass that they stand for, whose sets are functions of the
+/// chunk and of the leg.
 #[derive(Drop)]
 pub struct Pass {
     geometry: Geometry,
@@ -46,7 +49,8 @@ impl Pass {
     /// A pass over an array of these sizes, which copies the chunks of `todo` and covers `legs`.
     pub fn begin(g: &Geometry, todo: ChunkSet, legs: u8) -> Pass
         requires { length todo ≡ chunks_of g.now }
-        ensures { result ≡ new_pass g.now todo legs }
+        ensures pass { passing_of result ≡ begun (λ c. get_or todo c false) (has_bit legs) }
+        ensures sizes { result.sizes ≡ g.now }
     {
         Pass {
             geometry: *g,
@@ -76,7 +80,7 @@ impl Pass {
     /// the window. The window may be any range; where it ends at a multiple of the chunk or at the end of
     /// the room, the sector lies in it.
     pub fn next(&self, window: Range) -> Option<SectorNo>
-        ensures value { result ≡ next_of self.now window.lo window.hi }
+        ensures value { result ≡ next_in self.now.sizes (passing_of self.now) window }
         ensures range { IfSome result (λ s. s < self.now.sizes.room) }
         ensures window { is_edge self.now.sizes window.hi ≡ true → IfSome result (λ s. holds window.lo window.hi s ≡ true) }
     {
@@ -86,7 +90,7 @@ impl Pass {
 
     // The first chunk that is to be copied, of those that begin in the window.
     fn first_chunk_in(&self, window: Range) -> Option<ChunkNo>
-        ensures value { result ≡ first_chunk_in self.now.sizes (wants self.now) window.lo window.hi }
+        ensures value { result ≡ first_chunk_in self.now.sizes (passing_of self.now).todo window.lo window.hi }
         ensures range { IfSome result (λ c. c < chunks_of self.now.sizes) }
         ensures size { 0 < self.now.sizes.chunk }
     {
@@ -127,9 +131,10 @@ impl Pass {
     /// The next sector of the window was read from leg `l` with this value, and is in the buffer.
     pub fn copied_in(&mut self, window: Range, v: &Sector, l: LegId)
         requires empty { IsNone self.old.buffer }
-        requires next { IsSome (next_of self.old window.lo window.hi) }
+        requires next { IsSome (next_in self.old.sizes (passing_of self.old) window) }
         requires leg { l < 8 }
-        ensures { self.new ≡ filled self.old v.now l (next_of self.old window.lo window.hi) }
+        ensures pass { IfSome (next_in self.old.sizes (passing_of self.old) window) (λ s. passing_of self.new ≡ filled (passing_of self.old) s v.now l) }
+        ensures sizes { self.new.sizes ≡ self.old.sizes }
     {
         match self.next(window) {
             Some(sector) => {
@@ -143,63 +148,55 @@ impl Pass {
         }
     }
 
-    /// The buffer's value was written to leg `l`.
+    /// The buffer's value was written to leg `l`. Nothing changes where there is no buffer.
     pub fn copied_out(&mut self, l: LegId)
-        requires buffer { IsSome self.old.buffer }
-        requires leg { l < 8 }
-        ensures { self.new ≡ record self.old { buffer = option_map (done_on l) self.old.buffer } }
+        requires { l < 8 }
+        ensures pass { passing_of self.new ≡ copied (passing_of self.old) l }
+        ensures sizes { self.new.sizes ≡ self.old.sizes }
     {
-        match self.buffer {
-            Some(buffer) => {
-                self.buffer = Some(Buffer {
-                    done: with_leg(buffer.done, l),
-                    ..buffer
-                });
-            }
-            None => unreachable!(),
+        if let Some(buffer) = self.buffer {
+            self.buffer = Some(Buffer {
+                done: with_leg(buffer.done, l),
+                ..buffer
+            });
         }
     }
 
-    /// The least target that doesn't have the buffer's value.
+    /// The least target that doesn't have the buffer's value. None where there is no buffer.
     pub fn missing(&self, targets: u8) -> Option<LegId>
-        requires { IsSome self.now.buffer }
-        ensures { result ≡ missing_of (has_bit targets) self.now.buffer }
+        ensures { result ≡ missing_of (has_bit targets) (passing_of self.now).buffer }
     {
-        match self.buffer {
-            Some(buffer) => first_missing(targets, buffer.done),
-            None => unreachable!(),
-        }
+        let buffer = self.buffer?;
+        first_missing(targets, buffer.done)
     }
 
     /// The buffer's sector is settled, and the buffer is empty. Gives the chunk that the sector completes,
-    /// which is then no more to be copied. The last chunk may be short.
+    /// which is then no more to be copied. The last chunk may be short. Where there is no buffer nothing
+    /// changes, and no chunk is completed.
     pub fn settled(&mut self) -> Option<ChunkNo>
-        requires { IsSome self.old.buffer }
-        ensures told { result ≡ completed_of self.old self.old.buffer }
-        ensures after { self.new ≡ settled self.old self.old.buffer }
+        ensures told { result ≡ completed_of self.old.sizes (passing_of self.old).buffer }
+        ensures pass { passing_of self.new ≡ settled_of self.old.sizes (passing_of self.old) (passing_of self.old).buffer }
+        ensures sizes { self.new.sizes ≡ self.old.sizes }
     {
-        match self.buffer {
-            Some(buffer) => {
-                let c = self.chunk_of(buffer.sector);
-                let past = buffer.sector + 1;
-                self.buffer = None;
-                if past == self.geometry.chunk_range(c).hi {
-                    self.todo.remove(c);
-                    self.reached = 0;
-                    Some(c)
-                } else {
-                    self.reached = past;
-                    None
-                }
-            }
-            None => unreachable!(),
+        let buffer = self.buffer?;
+        let c = self.chunk_of(buffer.sector);
+        let past = buffer.sector + 1;
+        self.buffer = None;
+        if past == self.geometry.chunk_range(c).hi {
+            self.todo.remove(c);
+            self.reached = 0;
+            Some(c)
+        } else {
+            self.reached = past;
+            None
         }
     }
 
     /// The window has closed. The buffer is dropped, and a chunk that isn't completed begins again at its
     /// first sector in the next window.
     pub fn restart(&mut self)
-        ensures { self.new ≡ restarted self.old }
+        ensures pass { passing_of self.new ≡ restarted (passing_of self.old) }
+        ensures sizes { self.new.sizes ≡ self.old.sizes }
     {
         self.reached = 0;
         self.buffer = None;
@@ -208,30 +205,38 @@ impl Pass {
     /// Leg `l` isn't covered any more.
     pub fn uncover(&mut self, l: LegId)
         requires { l < 8 }
-        ensures legs { (k : ℕ) → has_bit self.new.covered k ≡ (has_bit self.old.covered k && not (k == l)) }
-        ensures rest { self.new ≡ record self.old { covered = self.new.covered } }
+        ensures pass { passing_of self.new ≡ uncovered (passing_of self.old) l }
+        ensures sizes { self.new.sizes ≡ self.old.sizes }
     {
         self.covered = without_leg(self.covered, l);
+    }
+
+    /// Of the covered legs only those of the set stay covered.
+    pub fn cover_only(&mut self, legs: u8)
+        ensures pass { passing_of self.new ≡ covering_only (passing_of self.old) (has_bit legs) }
+        ensures sizes { self.new.sizes ≡ self.old.sizes }
+    {
+        self.covered &= legs;
     }
 
     /// Whether the pass covers the leg.
     pub fn covers(&self, l: LegId) -> bool
         requires { l < 8 }
-        ensures { result ≡ has_bit self.now.covered l }
+        ensures { result ≡ (passing_of self.now).covered l }
     {
         has_leg(self.covered, l)
     }
 
     /// The legs that the pass covers.
     pub fn covered(&self) -> u8
-        ensures { result ≡ self.now.covered }
+        ensures { has_bit result ≡ (passing_of self.now).covered }
     {
         self.covered
     }
 
     /// The first chunk that is to be copied.
     pub fn left(&self) -> Option<ChunkNo>
-        ensures value { result ≡ first_chunk_left self.now.sizes (wants self.now) }
+        ensures value { result ≡ first_todo self.now.sizes (passing_of self.now) }
         ensures range { IfSome result (λ c. c < chunks_of self.now.sizes) }
     {
         self.todo.first_from(0)
@@ -240,15 +245,15 @@ impl Pass {
     /// Whether the chunk is to be copied.
     pub fn wants(&self, c: ChunkNo) -> bool
         requires { c < chunks_of self.now.sizes }
-        ensures { result ≡ wants self.now c }
+        ensures { result ≡ (passing_of self.now).todo c }
     {
         self.todo.has(c)
     }
 
     /// The sector in the buffer, and its value.
     pub fn buffer(&self) -> Option<(SectorNo, Sector)>
-        ensures value { result ≡ option_map (λ b. (b.sector, b.value)) self.now.buffer }
-        ensures variant { is_some result ≡ is_some self.now.buffer }
+        ensures value { result ≡ option_map (λ b. (b.sector, b.value)) (passing_of self.now).buffer }
+        ensures variant { is_some result ≡ is_some (passing_of self.now).buffer }
         ensures range { IfSome result (λ b. b.0 < self.now.sizes.room) }
     {
         match self.buffer {
@@ -358,6 +363,8 @@ mod tests {
         pass.restart();
         assert_eq!(rt; pass.next(window), Some(8));
         assert_eq!(rt; (pass.left(), pass.covers(2)), (Some(2), true));
+        pass.cover_only(0b110);
+        assert_eq!(rt; pass.covered(), 0b100);
         pass.uncover(2);
         assert_eq!(rt; pass.covered(), 0);
         assert_eq!(rt; pass.end().first_from(0), Some(2));
@@ -369,10 +376,12 @@ mod tests {
         let g = Geometry::new(4, 16, 4)?;
         let window = Range { lo: 0, hi: 16 };
         let mut pass = pass_over(&rt, rt.alloc(), &g, &[3])?;
+        // Without a buffer nothing is missing, and nothing becomes of it.
+        pass.copied_out(1);
+        assert_eq!(rt; (pass.missing(0b1011), pass.settled()), (None, None));
         assert!(rt; pass.buffer().is_none() && pass.next(window).is_some());
         pass.copied_in(window, &Sector::ZERO, 1);
         for (l, missing) in [(1, Some(0)), (0, Some(3)), (3, None)] {
-            assert!(rt; pass.buffer().is_some());
             pass.copied_out(l);
             assert_eq!(rt; pass.missing(0b1011), missing, "after leg {l}");
         }

@@ -1,5 +1,5 @@
 -- Suspended ranges by owner. A write into one waits: the rule is md-cluster's.
-use Rattle.std.specs.Prelude.{ℕ, slice_index_or, Bool, false, List, Option, Some, None}
+use Rattle.std.specs.Prelude.{ℕ, nat_lt, slice_index_or, Bool, false, if◌then◌else◌, List, Option, Some, None}
 use Rattle.dlm_modes.specs.First.{first_such}
 use Rattle.mdc_types.specs.Ranges.{holds}
 use Rattle.mdc_types.specs.declared.numbers.Range.{Range}
@@ -11,6 +11,10 @@ none_suspended owner = None
 -- the ranges that a list by owner stands for
 abbrev pub ranges_of : List (Option Range) → ℕ → Option Range
 ranges_of ranges owner = slice_index_or ranges owner None
+
+-- what is kept of a range: nothing where it is empty
+abbrev pub entry_of : Range → Option Range
+entry_of r = if nat_lt r.lo r.hi then Some r else None
 
 -- whether the range, if there is one, holds sector s
 abbrev pub suspends : ℕ → Option Range → Bool

@@ -5,17 +5,16 @@
 //! and a write into a suspended range waits. No call takes memory.
 #![tactic(auto)]
 
-ghost use Rattle.std.specs.Prelude.{◌≡◌, ◌<◌, None, Some, IfSome};
+ghost use Rattle.std.specs.Prelude.{◌≡◌, ◌<◌, None, IfSome};
 ghost use Rattle.dlm_modes.specs.Points.{with_at};
-ghost use Rattle.suspend_ranges.specs.Suspended.{none_suspended, ranges_of, suspends, covering};
+ghost use Rattle.suspend_ranges.specs.Suspended.{none_suspended, ranges_of, entry_of, suspends, covering};
 
 use mdc_types::{NodeId, Range, SectorNo};
 use std::marker::Model;
 
 /// Ranges of sectors that are suspended, at most one for each of sixteen owners.
 ///
-/// A range is kept as it was put. The empty range, whose ends are equal, covers no sector, so to put it
-/// and to drop the owner are the same to `covers`.
+/// A range is kept as it was put. One that holds no sector isn't kept: to put it is to drop the owner.
 ///
 /// Contracts see the list of the ranges by owner, and speak of the function from owners to ranges that
 /// it stands for.
@@ -41,12 +40,13 @@ impl SuspendList {
         SuspendList { ranges: [None; 16] }
     }
 
-    /// Suspends the range for the owner, in place of the owner's former one.
+    /// Suspends the range for the owner, in place of the owner's former one. An empty range drops the
+    /// owner.
     pub fn put(&mut self, owner: NodeId, r: Range)
         requires { owner < 16 }
-        ensures { ranges_of self.new ≡ with_at (ranges_of self.old) owner (Some r) }
+        ensures { ranges_of self.new ≡ with_at (ranges_of self.old) owner (entry_of r) }
     {
-        self.ranges[owner as usize] = Some(r);
+        self.ranges[owner as usize] = if r.lo < r.hi { Some(r) } else { None };
     }
 
     /// Suspends nothing for the owner any more.
@@ -125,8 +125,9 @@ mod tests {
             match call {
                 Call::Put(owner, lo, hi) => {
                     assert!(rt; owner < 16);
-                    list.put(owner, Range { lo, hi });
-                    assert_eq!(rt; list.range(owner), Some(Range { lo, hi }));
+                    let r = Range { lo, hi };
+                    list.put(owner, r);
+                    assert_eq!(rt; list.range(owner), if lo == hi { None } else { Some(r) });
                 }
                 Call::Drop(owner) => {
                     assert!(rt; owner < 16);
