@@ -88,6 +88,11 @@ abbrev pub IsReadable : Sector → (ℕ → List Sector) → Option ℕ → Type
 IsReadable v values None = ⊥
 IsReadable v values (Some s) = IsIn v (values s)
 
+-- the read was asked, and has not ended
+abbrev pub IsAsked : Option ℕ → Type 0
+IsAsked None = ⊥
+IsAsked (Some s) = Unit {0}
+
 -- the write is live and has started
 abbrev pub HasBegun : Option PlainWrite → Type 0
 HasBegun None = ⊥
@@ -101,6 +106,8 @@ IsFree writes s = (n k : ℕ) (w : PlainWrite) → writes n k ≡ Some w → w.s
 abbrev pub LegalEntry : (ℕ → ℕ → Option PlainWrite) → (ℕ → ℕ → Option ℕ) → (ℕ → List Sector) → Event → Outcome → Type 0
 -- a read gives a candidate of its sector
 LegalEntry writes reads values (In n k) (Value l v) = IsReadable v values (reads n k)
+-- and whatever it ends with, it was asked before
+LegalEntry writes reads values (In n k) o = IsAsked (reads n k)
 -- a sector is settled to a candidate
 LegalEntry writes reads values (Settle n) (Settled s v) = IsIn v (values s)
 -- a write ends after its start and while it is live

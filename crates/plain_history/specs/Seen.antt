@@ -1,8 +1,8 @@
 -- Finished writes are seen: a later read gives the value of the write that finished, or of a write that started since.
 use Rattle.std.specs.Prelude.{◌≡◌, ℕ, false, ◌⊎◌, List, [], ◌∷◌, ◌++◌, Some}
 use Rattle.mdc_types.specs.declared.numbers.Sector.{Sector}
-use Rattle.mdc_types.specs.declared.events.Event.TheVariants.{Out, EndWrite, In}
-use Rattle.mdc_types.specs.declared.outcomes.Outcome.TheVariants.{Value}
+use Rattle.mdc_types.specs.declared.events.Event.TheVariants.{Out, EndWrite, In, Settle}
+use Rattle.mdc_types.specs.declared.outcomes.Outcome.TheVariants.{Value, Settled}
 use Rattle.mdc_types.specs.declared.outcomes.Entry.{Entry}
 use Rattle.plain_history.specs.History.{PlainWrite, live_writes, asked_reads, Legal}
 
@@ -28,6 +28,17 @@ pub record Ends (past : List Entry) (x : Entry) (s : ℕ) (v : Sector) : Type 0 
   pub sector : write.sector ≡ s
   pub value : write.value ≡ v
 
+-- x settles sector s
+pub record Settles (x : Entry) (s : ℕ) : Type 0 where
+  pub node : ℕ
+  pub value : Sector
+  pub event : x.event ≡ Settle node
+  pub outcome : x.outcome ≡ Settled s value
+
+-- after these entries, x decides sector s: it ends a write of it, or settles it
+abbrev pub Decides : List Entry → Entry → ℕ → Type 0
+Decides past x s = ((v : Sector) × Ends past x s v) ⊎ Settles x s
+
 -- after these entries, x gives v for a read of sector s
 pub record Gives (past : List Entry) (x : Entry) (s : ℕ) (v : Sector) : Type 0 where
   pub node : ℕ
@@ -41,6 +52,13 @@ pub record Gives (past : List Entry) (x : Entry) (s : ℕ) (v : Sector) : Type 0
 abbrev pub StartedSince : List Entry → List Entry → ℕ → Sector → Type 0
 StartedSince [] past s v = ⊥
 StartedSince (x ∷ later) past s v = Starts (later ++ past) x s v ⊎ StartedSince later past s v
+
+-- one of the later entries, which stand after the past ones, starts a write of sector s, and no entry
+-- after that start decides s
+abbrev pub OpenSince : List Entry → List Entry → ℕ → Type 0
+OpenSince [] past s = ⊥
+OpenSince (x ∷ later) past s = ((v : Sector) × Starts (later ++ past) x s v)
+    ⊎ (OpenSince later past s × (¬ Decides (later ++ past) x s))
 
 -- in each legal trace, after the end of a write each later read of its sector gives its value or that of a write that started after that end
 abbrev pub FinishedWritesAreSeen : Type 0

@@ -105,6 +105,7 @@ mod tests {
         let other = entry(Event::AskWrite(1, 1, near), Outcome::Write(0));
         let read = entry(Event::AskRead(2, 1), Outcome::Read(7));
         let lost = entry(Event::In(2, 7), Outcome::Lost(1));
+        let no_leg = entry(Event::In(2, 7), Outcome::Io(1));
         let settle = |value| entry(Event::Settle(3), Outcome::Settled { sector: 1, value });
 
         // While the write is open both values may be read, and after its end the new one alone.
@@ -157,6 +158,12 @@ mod tests {
         assert_eq!(rt;
             answer(&rt, rt.alloc(), &[gives(old)])?,
             Checked::FirstBad(0)
+        );
+        // A read ends only where it was asked, also without a value.
+        assert_eq!(rt; answer(&rt, rt.alloc(), &[lost])?, Checked::FirstBad(0));
+        assert_eq!(rt;
+            answer(&rt, rt.alloc(), &[read, no_leg, no_leg])?,
+            Checked::FirstBad(2)
         );
         assert_eq!(rt; answer(&rt, rt.alloc(), &[ask, end])?, Checked::FirstBad(1));
         assert_eq!(rt;

@@ -2,6 +2,7 @@
 //! locks or views.
 #![tactic(auto)]
 
+ghost use Rattle.plain_history.specs.Open.{OpenWritesAreCandidates};
 ghost use Rattle.plain_history.specs.Seen.{FinishedWritesAreSeen};
 
 mod asked;
@@ -17,4 +18,10 @@ pub use plain::{Plain, PlainEnd};
 /// the value of a write that started after that end.
 pub fn finished_writes_are_seen()
     ensures { FinishedWritesAreSeen }
+{}
+
+/// A read may give the value of each write that is open: one that started, and whose sector no end and no
+/// settle decided since.
+pub fn open_writes_are_candidates()
+    ensures { OpenWritesAreCandidates }
 {}

@@ -1,7 +1,7 @@
 ghost use Rattle.std.specs.Prelude.{◌≡◌, ◌<◌, ◌↔◌, ℕ, List, [], ◌∷◌, length, map, IsTrue, OnOk, OnErr, Some};
 ghost use Rattle.mdc_types.specs.declared.numbers.Sector.{Sector};
 ghost use Rattle.mdc_types.specs.declared.outcomes.Entry.{Entry};
-ghost use Rattle.plain_history.specs.History.{IsFree, HasBegun, IsReadable, IsIn, values_at};
+ghost use Rattle.plain_history.specs.History.{IsFree, HasBegun, IsReadable, IsAsked, IsIn, values_at};
 ghost use Rattle.plain_history.specs.Asked.{write_in};
 ghost use Rattle.plain_history.specs.Runs.{RunEnds};
 ghost use Rattle.plain_history.specs.Tables.{tables_of, writes_of, reads_of, Follows, IsWithin, LegalIn, start_values, ask_write, start_write, start_and_break, end_write, break_write, ask_read, end_read, die, settle, tables_after};
@@ -112,6 +112,16 @@ impl Plain {
         }
     }
 
+    // Whether the read was asked.
+    fn is_asked(&self, n: NodeId, k: ReadNo) -> bool
+        ensures { IsTrue result ↔ IsAsked (reads_of self.now n k) }
+    {
+        match read_of(&self.reads, n, k) {
+            Some(_) => true,
+            None => false,
+        }
+    }
+
     // Whether the entry is legal now.
     fn allows(&self, e: &Entry) -> bool
         ensures { IsTrue result ↔ LegalIn self.now e.now.event e.now.outcome }
@@ -119,7 +129,7 @@ impl Plain {
         match e.event {
             Event::In(n, k) => match e.outcome {
                 Outcome::Value { value, .. } => self.is_readable(n, k, &value),
-                _ => true,
+                _ => self.is_asked(n, k),
             },
             Event::Settle(_) => match e.outcome {
                 Outcome::Settled { sector, value } => self.is_candidate(sector, &value),
