@@ -1,4 +1,4 @@
-ghost use Rattle.std.specs.Prelude.{◌≡◌, ◌<◌, ◌≤◌, ◌+◌, Ok, Err, None, IfOk, IfSome, OnErr, vec_len};
+ghost use Rattle.std.specs.Prelude.{◌≡◌, ◌<◌, ◌≤◌, ◌+◌, Ok, Err, None, IfOk, IfSome, OnErr, vec_len, true};
 ghost use Rattle.std.specs.Option.{option_to_list};
 ghost use Rattle.mdc_types.specs.Faults.{Rose, HasCause};
 ghost use Rattle.script_text.specs.Lines.{input_part, script_limit};
@@ -41,7 +41,7 @@ fn next_byte<S: Source>(source: &mut S) -> Result<Option<u8>, Failed>
     ensures taken { IfOk result (λ byte. S.left source.old ≡ with_front (option_to_list byte) (S.left source.new)) }
     ensures end { result ≡ Ok None → IsAtEnd (S.left source.old) }
     ensures err { OnErr result (S.left source.new ≡ S.left source.old) }
-    ensures cause { HasCause (S.faults source.old) (S.faults source.new) result }
+    ensures cause { HasCause (λ e. true) (S.faults source.old) (S.faults source.new) result }
 {
     let mut buf = [0];
     if source.read(&mut buf)? == 0 {

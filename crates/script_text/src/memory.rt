@@ -1,4 +1,4 @@
-ghost use Rattle.std.specs.Prelude.{◌≡◌, ℕ, ◌<◌, ◌≤◌, ◌-◌, [], take, length, IfOk, OnErr, Ok, is_ok, is_err, not, vec_len};
+ghost use Rattle.std.specs.Prelude.{◌≡◌, ℕ, ◌<◌, ◌≤◌, ◌-◌, [], take, length, IfOk, OnErr, Ok, is_ok, is_err, not, vec_len, true};
 ghost use Rattle.mdc_types.specs.Faults.{HasCause};
 ghost use Rattle.script_text.specs.Outside.{with_front, with_back, IsAtEnd};
 ghost use Rattle.script_text.specs.Memory.{MemInput, MemOutput, read_fails, read_len, after_read, write_fails, write_len, after_write};
@@ -58,7 +58,7 @@ impl Source for MemSource {
         ensures given { IfOk result (λ n. Some self.old.left ≡ with_front (take n buf.new) (Some self.new.left)) }
         ensures end { result ≡ Ok 0 → 0 < length buf.old → IsAtEnd (Some self.old.left) }
         ensures err { OnErr result (Some self.new.left ≡ Some self.old.left) }
-        ensures cause { HasCause self.old.faults self.new.faults result }
+        ensures cause { HasCause (λ e. true) self.old.faults self.new.faults result }
 
         // It fails exactly in the calls that are to fail, and else gives as much as it can.
         ensures fails { is_err result ≡ read_fails self.old }
@@ -135,7 +135,7 @@ impl Sink for MemSink {
         ensures progress { IfOk result (λ n. 0 < length bytes.now → 0 < n) }
         ensures taken { IfOk result (λ n. Some self.new.written ≡ with_back (Some self.old.written) (take n bytes.now)) }
         ensures err { OnErr result (Some self.new.written ≡ Some self.old.written) }
-        ensures cause { HasCause self.old.faults self.new.faults result }
+        ensures cause { HasCause (λ e. true) self.old.faults self.new.faults result }
 
         // It fails exactly in the calls that are to fail and where it is full, and else takes as much
         // as it can.

@@ -1,4 +1,4 @@
-ghost use Rattle.std.specs.Prelude.{◌≡◌, ◌<◌, ◌≤◌, ℕ, List, Option, take, length, IfOk, OnOk, OnErr};
+ghost use Rattle.std.specs.Prelude.{◌≡◌, ◌<◌, ◌≤◌, ℕ, List, Option, take, length, IfOk, OnOk, OnErr, true};
 ghost use Rattle.mdc_types.specs.Faults.{HasCause};
 ghost use Rattle.script_text.specs.Outside.{with_back, WroteFront};
 
@@ -19,7 +19,7 @@ pub trait Sink {
         ensures progress { IfOk result (λ n. 0 < length bytes.now → 0 < n) }
         ensures taken { IfOk result (λ n. written self.new ≡ with_back (written self.old) (take n bytes.now)) }
         ensures err { OnErr result (written self.new ≡ written self.old) }
-        ensures cause { HasCause (faults self.old) (faults self.new) result };
+        ensures cause { HasCause (λ e. true) (faults self.old) (faults self.new) result };
 }
 
 /// Writes all of the piece, in as many calls as it takes. Where a call fails, a front of the piece is
@@ -27,7 +27,7 @@ pub trait Sink {
 pub fn write_all<K: Sink>(sink: &mut K, bytes: &[u8]) -> Result<(), Failed>
     ensures ok { OnOk result (K.written sink.new ≡ with_back (K.written sink.old) bytes.now) }
     ensures err { OnErr result (WroteFront (K.written sink.old) bytes.now (K.written sink.new)) }
-    ensures cause { HasCause (K.faults sink.old) (K.faults sink.new) result }
+    ensures cause { HasCause (λ e. true) (K.faults sink.old) (K.faults sink.new) result }
 {
     let mut rest = bytes;
     while !rest.is_empty() {

@@ -1,4 +1,4 @@
-ghost use Rattle.std.specs.Prelude.{◌≡◌, ◌<◌, ◌≤◌, ℕ, List, Option, take, length, IfOk, OnErr, Ok};
+ghost use Rattle.std.specs.Prelude.{◌≡◌, ◌<◌, ◌≤◌, ℕ, List, Option, take, length, IfOk, OnErr, Ok, true};
 ghost use Rattle.mdc_types.specs.Faults.{HasCause};
 ghost use Rattle.script_text.specs.Outside.{with_front, IsAtEnd};
 
@@ -19,5 +19,5 @@ pub trait Source {
         ensures given { IfOk result (λ n. left self.old ≡ with_front (take n buf.new) (left self.new)) }
         ensures end { result ≡ Ok 0 → 0 < length buf.old → IsAtEnd (left self.old) }
         ensures err { OnErr result (left self.new ≡ left self.old) }
-        ensures cause { HasCause (faults self.old) (faults self.new) result };
+        ensures cause { HasCause (λ e. true) (faults self.old) (faults self.new) result };
 }
