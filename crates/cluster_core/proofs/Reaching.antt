@@ -2,8 +2,8 @@
 use Rattle.std.proofs.Common.{◌≡◌, ◌<◌, ◌∷◌, length, sym, ◌∙◌, ap, subst, arith}
 use Rattle.mdc_types.specs.declared.outcomes.Outcome.{Outcome}
 use Rattle.mdc_types.specs.declared.events.Event.{Event}
-use Rattle.cluster_model.specs.Run.{Step, entry}
-use Rattle.laws_sound.proofs.Runs.{run_sizes}
+use Rattle.io_model.specs.Run.{Step, entry}
+use Rattle.io_sound.proofs.Runs.{run_sizes}
 use Rattle.world_state.specs.Told.{Fits}
 use Rattle.cluster_core.specs.World.{Seen, Reachable, state, trace_limit}
 

@@ -5,9 +5,9 @@ use Rattle.mdc_types.specs.Roles.{role_of}
 use Rattle.mdc_types.specs.declared.numbers.Sector.{Sector}
 use Rattle.mdc_types.specs.declared.outcomes.Entry.{Entry}
 use Rattle.mdc_types.specs.declared.roles.Role.TheVariants.{Working}
-use Rattle.cluster_model.specs.State.{State, Legs}
-use Rattle.cluster_model.specs.Run.{Run}
-use Rattle.cluster_model.specs.Opening.{Origin, Opens}
+use Rattle.io_model.specs.State.{State, Legs}
+use Rattle.io_model.specs.Run.{Run}
+use Rattle.io_model.specs.Opening.{Origin, Opens}
 use Rattle.world_state.specs.Seen.{Parts}
 use Rattle.world_state.specs.Told.{state_of, Fits}
 

@@ -1,7 +1,7 @@
 ghost use Rattle.std.specs.Prelude.{◌≡◌, ◌<◌, ◌-◌, ◌^◌, ◌++◌, [], ◌∷◌, ℕ, None, true, map, vec_len, vec_capacity};
-ghost use Rattle.cluster_model.specs.Table.{refusal, is_built};
-ghost use Rattle.cluster_model.specs.Run.{Step, entry};
-ghost use Rattle.laws_sound.specs.Sound.{Sound};
+ghost use Rattle.io_model.specs.Table.{refusal, is_built};
+ghost use Rattle.io_model.specs.Run.{Step, entry};
+ghost use Rattle.io_sound.specs.Sound.{Sound};
 ghost use Rattle.world_state.specs.Seen.{Judges, core_of};
 ghost use Rattle.world_state.specs.Told.{state_of, Fits, Caused};
 

@@ -1,8 +1,8 @@
 ghost use Rattle.std.specs.Prelude.{◌≡◌, ◌<◌, ◌≤◌, ◌-◌, ◌^◌, ◌↔◌, [], ◌∷◌, ℕ, true, None, Some, Ok, Err, min, map, reverse, length, IfOk, IfErr, IsErr, IsOk, OnOk, OnErr, IsErrOf};
 ghost use Rattle.mdc_types.specs.declared.refusals.Refusal.{Refusal};
-ghost use Rattle.cluster_model.specs.Opening.{IsOrigin, core_at};
-ghost use Rattle.cluster_model.specs.Table.{refusal, is_built};
-ghost use Rattle.cluster_model.specs.Run.{Step, entry};
+ghost use Rattle.io_model.specs.Opening.{IsOrigin, core_at};
+ghost use Rattle.io_model.specs.Table.{refusal, is_built};
+ghost use Rattle.io_model.specs.Run.{Step, entry};
 ghost use Rattle.world_state.specs.Seen.{core_of};
 ghost use Rattle.world_state.specs.Told.{Fits, Caused, legs_of};
 ghost use Rattle.cluster_core.specs.World.{state, Reachable, HasBase, trace_limit};

@@ -4,8 +4,8 @@ use Rattle.std.specs.Prelude.{reverse, slice_get, codes}
 use Rattle.std.proofs.Math.Seq.{take-append-add}
 use Rattle.mdc_types.specs.Faults.{Rose}
 use Rattle.mdc_types.specs.declared.outcomes.Entry.{Entry}
-use Rattle.cluster_model.specs.State.{State}
-use Rattle.cluster_model.specs.Opening.{Opens}
+use Rattle.io_model.specs.State.{State}
+use Rattle.io_model.specs.Opening.{Opens}
 use Rattle.script_text.specs.declared.command.Command.{Command}
 use Rattle.script_text.specs.declared.command.Command.TheVariants as commands
 use Rattle.script_text.specs.declared.command.WordsEnd.{WordsEnd}
@@ -20,12 +20,12 @@ use Rattle.script_text.specs.declared.script.Line.{Line}
 use Rattle.script_text.specs.declared.script.Line.TheVariants.{Event as event_line}
 use Rattle.script_text.specs.Script.{ScriptValue, IsScript, script_of, fault_of}
 use Rattle.script_text.specs.Outside.{with_back, WroteFront}
-use Rattle.cluster_model.specs.Run.{Run}
+use Rattle.io_model.specs.Run.{Run}
 use Rattle.mdc_types.specs.Roles.{role_of}
 use Rattle.mdc_types.specs.declared.roles.Role.TheVariants.{Spare}
-use Rattle.laws_history.specs.Laws.{WorkingLegsTell}
-use Rattle.laws_history.proofs.Places.{runs_cut, legs_tell}
-use Rattle.laws_history.proofs.Runs.{runs_legal, runs_fresh}
+use Rattle.io_history.specs.Laws.{WorkingLegsTell}
+use Rattle.io_history.proofs.Places.{runs_cut, legs_tell}
+use Rattle.io_history.proofs.Runs.{runs_legal, runs_fresh}
 use Rattle.cluster_core.specs.World.{trace_limit}
 use Rattle.mdc.specs.Lines.{AllTold, AtPlace, Playing, origin_of, Plays, Sofar, CutShort, RanFull}
 use Rattle.mdc.specs.Outside.{Outside, Wrote, WroteLess, Reads, usage_line, read_fault_line, script_line}

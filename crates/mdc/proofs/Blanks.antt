@@ -5,7 +5,7 @@ use Rattle.std.proofs.lemmas.List.{length-map, length-replicate}
 use Rattle.mdc_types.specs.Geometry.{Sizes, length_of}
 use Rattle.mdc_types.specs.declared.numbers.Sector.{Sector}
 use Rattle.leg_store.specs.Memory.{Memory, told}
-use Rattle.cluster_model.specs.Opening.{header_at, zero_sector}
+use Rattle.io_model.specs.Opening.{header_at, zero_sector}
 use Rattle.world_state.specs.Told.{Fits, legs_of, sectors_of}
 use Rattle.cluster_core.specs.World.{HasBase}
 use Rattle.mdc.specs.Blank.{blank_leg}

@@ -6,9 +6,9 @@ use Rattle.std.proofs.lemmas.List.{reverse-append, take_more, append-nil}
 use Rattle.std.proofs.lemmas.Option.{slice_get-get_or}
 use Rattle.std.proofs.Math.Seq.{take-append-add, take-length}
 use Rattle.mdc_types.specs.declared.outcomes.Entry.{Entry}
-use Rattle.cluster_model.specs.State.{State}
-use Rattle.cluster_model.specs.Run.{Run, entry}
-use Rattle.laws_history.proofs.Places.{legs_tell}
+use Rattle.io_model.specs.State.{State}
+use Rattle.io_model.specs.Run.{Run, entry}
+use Rattle.io_history.proofs.Places.{legs_tell}
 use Rattle.script_text.specs.declared.script.Line.{Line}
 use Rattle.script_text.specs.declared.script.Line.TheVariants as line_kinds
 use Rattle.script_text.specs.Outside.{with_back}

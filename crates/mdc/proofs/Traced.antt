@@ -9,14 +9,14 @@ use Rattle.mdc_types.specs.declared.outcomes.Outcome.{Outcome}
 use Rattle.mdc_types.specs.declared.outcomes.Entry.{Entry}
 use Rattle.plain_history.specs.History.{Legal, values_at}
 use Rattle.plain_history.specs.Tables.{IsWithin}
-use Rattle.cluster_model.specs.State.{State, Core, Legs}
-use Rattle.cluster_model.specs.Run.{Run}
-use Rattle.cluster_model.specs.Opening.{Origin, Opens}
-use Rattle.laws_sound.proofs.Ways.{Way, way_of, writes, puts, puts_io, puts_lost, ends, reads, gets, gets_io, gets_lost}
-use Rattle.laws_sound.proofs.Runs.{run_sound, run_sizes}
-use Rattle.laws_history.specs.Laws.{WorkingLegsTell}
-use Rattle.laws_history.proofs.Places.{legs_tell}
-use Rattle.laws_history.proofs.Runs.{runs_legal}
+use Rattle.io_model.specs.State.{State, Core, Legs}
+use Rattle.io_model.specs.Run.{Run}
+use Rattle.io_model.specs.Opening.{Origin, Opens}
+use Rattle.io_sound.proofs.Ways.{Way, way_of, writes, puts, puts_io, puts_lost, ends, reads, gets, gets_io, gets_lost}
+use Rattle.io_sound.proofs.Runs.{run_sound, run_sizes}
+use Rattle.io_history.specs.Laws.{WorkingLegsTell}
+use Rattle.io_history.proofs.Places.{legs_tell}
+use Rattle.io_history.proofs.Runs.{runs_legal}
 
 -- an accepted write is within the sectors that the node is sure of
 within_way : (core later : Core) (legs new : Legs) (e : Event) (o : Outcome) (room : ℕ) → Way core legs e o later new → ((n : ℕ) → core.sure_size n ≤ room) → IsWithin room e

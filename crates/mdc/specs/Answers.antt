@@ -3,8 +3,8 @@ use Rattle.std.specs.Prelude.{◌≡◌, ◌⊎◌, ℕ, List, ◌++◌, take, s
 use Rattle.mdc_types.specs.Faults.{Rose}
 use Rattle.mdc_types.specs.declared.events.Event.{Event}
 use Rattle.mdc_types.specs.declared.outcomes.Entry.{Entry}
-use Rattle.cluster_model.specs.State.{State}
-use Rattle.cluster_model.specs.Table.{refusal}
+use Rattle.io_model.specs.State.{State}
+use Rattle.io_model.specs.Table.{refusal}
 use Rattle.cluster_core.specs.World.{trace_limit}
 use Rattle.script_text.specs.declared.command.Command.{Command}
 use Rattle.script_text.specs.declared.command.Command.TheVariants as commands

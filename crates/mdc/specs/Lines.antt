@@ -8,11 +8,11 @@ use Rattle.mdc_types.specs.declared.outcomes.Outcome.{Outcome}
 use Rattle.mdc_types.specs.declared.outcomes.Entry.{Entry}
 use Rattle.mdc_types.specs.declared.refusals.Refusal.{Refusal}
 use Rattle.plain_history.specs.History.{Legal, candidates, values_at}
-use Rattle.cluster_model.specs.State.{State}
-use Rattle.cluster_model.specs.Table.{refusal}
-use Rattle.cluster_model.specs.Run.{Step, Run, entry}
-use Rattle.cluster_model.specs.Opening.{Origin, Opens, header_at}
-use Rattle.laws_history.specs.Laws.{NoServedLegIsStale}
+use Rattle.io_model.specs.State.{State}
+use Rattle.io_model.specs.Table.{refusal}
+use Rattle.io_model.specs.Run.{Step, Run, entry}
+use Rattle.io_model.specs.Opening.{Origin, Opens, header_at}
+use Rattle.io_history.specs.Laws.{NoServedLegIsStale}
 use Rattle.cluster_core.specs.World.{trace_limit}
 use Rattle.script_text.specs.Outside.{with_back}
 use Rattle.script_text.specs.declared.script.Start.{Start}

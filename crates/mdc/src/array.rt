@@ -1,7 +1,7 @@
 ghost use Rattle.std.specs.Prelude.{◌≡◌, ◌≤◌, true, false, is_ok, replicate, [], IfOk};
 ghost use Rattle.mdc_types.specs.Bits.{has_bit};
 ghost use Rattle.mdc_types.specs.Geometry.{geometry_of};
-ghost use Rattle.cluster_model.specs.Opening.{Opens};
+ghost use Rattle.io_model.specs.Opening.{Opens};
 ghost use Rattle.cluster_core.specs.World.{state};
 ghost use Rattle.mdc.specs.Lines.{AllTold, origin_of, sizes_of};
 ghost use Rattle.mdc.specs.Blank.{blank_leg};

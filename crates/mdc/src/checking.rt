@@ -1,7 +1,7 @@
 ghost use Rattle.std.specs.Prelude.{◌≡◌, length, IfOk};
 ghost use Rattle.std.specs.String.{string_bytes};
 ghost use Rattle.cluster_core.specs.World.{state};
-ghost use Rattle.laws_history.specs.Laws.{WorkingLegsTell};
+ghost use Rattle.io_history.specs.Laws.{WorkingLegsTell};
 ghost use Rattle.mdc.specs.Lines.{legal_text};
 
 use cluster_core::World;

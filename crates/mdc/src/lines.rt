@@ -2,9 +2,9 @@ ghost use Rattle.std.specs.Prelude.{◌≡◌, ◌≤◌, ℕ, List, true, Err, 
 ghost use Rattle.std.specs.List.{AllByRecursion};
 ghost use Rattle.std.specs.String.{string_bytes};
 ghost use Rattle.mdc_types.specs.Faults.{Rose};
-ghost use Rattle.cluster_model.specs.Table.{is_built};
+ghost use Rattle.io_model.specs.Table.{is_built};
 ghost use Rattle.cluster_core.specs.World.{state};
-ghost use Rattle.laws_history.specs.Laws.{WorkingLegsTell};
+ghost use Rattle.io_history.specs.Laws.{WorkingLegsTell};
 ghost use Rattle.script_text.specs.Script.{is_event_line};
 ghost use Rattle.script_text.specs.Outside.{with_back};
 ghost use Rattle.mdc.specs.Lines.{accepted_text, refused_text, TakesEvent, Takes, HaltsAt, FindsFull, legal_text, Sofar, CutShort, RanFull};

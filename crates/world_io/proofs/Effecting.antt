@@ -14,11 +14,11 @@ use Rattle.read_balance.specs.Choice.{nearest_leg}
 use Rattle.mirror_io.specs.declared.live.LiveWrite.{LiveWrite}
 use Rattle.mirror_io.specs.declared.live.LiveRead.{LiveRead}
 use Rattle.mirror_io.specs.Flight.{write_in, read_in, without_write, without_read, new_write, new_read, start_in, done_in}
-use Rattle.cluster_model.specs.State.{Core}
-use Rattle.cluster_model.specs.Table.{refusal}
-use Rattle.cluster_model.specs.Effects.{after, head_at_write}
-use Rattle.cluster_model.proofs.Guards.{write_at, out_at, end_at, read_at, in_at}
-use Rattle.cluster_model.proofs.Same.{same_core, get-set}
+use Rattle.io_model.specs.State.{Core}
+use Rattle.io_model.specs.Table.{refusal}
+use Rattle.io_model.specs.Effects.{after, head_at_write}
+use Rattle.io_model.proofs.Guards.{write_at, out_at, end_at, read_at, in_at}
+use Rattle.io_model.proofs.Same.{same_core, get-set}
 use Rattle.world_state.specs.Seen.{Node, Parts, at, core_of, no_node, node_reads, node_head}
 
 pub ask_write_seen : (p : Parts) (n s k : ℕ) (v : Sector) (got new : Node) → length p.nodes ≡ nodes_of p.sizes → refusal (core_of p) (AskWrite n s v) ≡ None → got ≡ get_or p.nodes n got

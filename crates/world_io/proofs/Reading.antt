@@ -7,10 +7,10 @@ use Rattle.mdc_types.specs.declared.roles.NodeState.TheVariants.{Up}
 use Rattle.mirror_io.specs.declared.live.LiveRead.{LiveRead}
 use Rattle.read_balance.specs.Choice.{nearest_leg}
 use Rattle.read_balance.proofs.Choices.{chosen_works, some_chosen}
-use Rattle.cluster_model.specs.State.{Core, works}
-use Rattle.cluster_model.specs.Effects.{read_leg}
-use Rattle.laws_sound.specs.Sound.{Sound}
-use Rattle.laws_sound.proofs.Legs.{some_leg}
+use Rattle.io_model.specs.State.{Core, works}
+use Rattle.io_model.specs.Effects.{read_leg}
+use Rattle.io_sound.specs.Sound.{Sound}
+use Rattle.io_sound.proofs.Legs.{some_leg}
 
 below_or_not : (i k : ℕ) → (i < k) ⊎ (k ≤ i)
 below_or_not i k = grind (arith, nat_tests)

@@ -5,9 +5,9 @@ ghost use Rattle.mdc_types.specs.declared.numbers.Sector.{Sector};
 ghost use Rattle.mirror_io.specs.declared.live.LiveWrite.{LiveWrite};
 ghost use Rattle.mirror_io.specs.declared.live.LiveRead.{LiveRead};
 ghost use Rattle.mirror_io.specs.Flight.{write_in, read_in};
-ghost use Rattle.cluster_model.specs.State.{works};
-ghost use Rattle.cluster_model.specs.Table.{refusal};
-ghost use Rattle.cluster_model.specs.Effects.{after, failed, other_leg};
+ghost use Rattle.io_model.specs.State.{works};
+ghost use Rattle.io_model.specs.Table.{refusal};
+ghost use Rattle.io_model.specs.Effects.{after, failed, other_leg};
 ghost use Rattle.world_state.specs.Seen.{core_of};
 
 use mdc_types::{Event, LegId, NodeId, Outcome, ReadNo, Sector, SectorNo, WriteNo};

@@ -3,7 +3,7 @@ ghost use Rattle.dlm_modes.specs.Guards.{unless};
 ghost use Rattle.mdc_types.specs.Geometry.{nodes_of};
 ghost use Rattle.mdc_types.specs.declared.numbers.Sector.{Sector};
 ghost use Rattle.mirror_io.specs.Flight.{write_in, read_in};
-ghost use Rattle.cluster_model.specs.Table.{not_live, not_up, no_write, no_read, unacked, unacked_leg, not_written, unwritten_leg, in_flight, writer_of, refusal};
+ghost use Rattle.io_model.specs.Table.{not_live, not_up, no_write, no_read, unacked, unacked_leg, not_written, unwritten_leg, in_flight, writer_of, refusal};
 ghost use Rattle.world_state.specs.Seen.{Judges, core_of};
 
 use mdc_types::{Event, LegId, NodeId, NodeState, Part, ReadNo, Refusal, SectorNo, WriteNo};

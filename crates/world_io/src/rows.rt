@@ -2,11 +2,11 @@ ghost use Rattle.std.specs.Prelude.{◌≡◌, ◌<◌, ◌-◌, ◌^◌, ◌++�
 ghost use Rattle.mdc_types.specs.Geometry.{length_of};
 ghost use Rattle.mirror_io.specs.declared.live.LiveRead.{LiveRead};
 ghost use Rattle.mirror_io.specs.Flight.{write_in, read_in};
-ghost use Rattle.cluster_model.specs.Table.{refusal};
-ghost use Rattle.cluster_model.specs.Effects.{after, read_leg};
-ghost use Rattle.cluster_model.specs.State.{place_of};
-ghost use Rattle.cluster_model.specs.Run.{Step, Puts, Gets, entry};
-ghost use Rattle.laws_sound.specs.Sound.{Sound};
+ghost use Rattle.io_model.specs.Table.{refusal};
+ghost use Rattle.io_model.specs.Effects.{after, read_leg};
+ghost use Rattle.io_model.specs.State.{place_of};
+ghost use Rattle.io_model.specs.Run.{Step, Puts, Gets, entry};
+ghost use Rattle.io_sound.specs.Sound.{Sound};
 ghost use Rattle.world_state.specs.Seen.{core_of};
 ghost use Rattle.world_state.specs.Told.{state_of, legs_of, Fits, Caused, HasItsCause, fault_at};
 

@@ -8,8 +8,8 @@ use Rattle.mdc_types.specs.Geometry.{Sizes, IsGeometry, nodes_of}
 use Rattle.mdc_types.specs.Roles.{role_of, is_working}
 use Rattle.mdc_types.specs.declared.roles.Role.TheVariants.{Spare}
 use Rattle.dlm_modes.specs.First.{first_such}
-use Rattle.cluster_model.specs.Opening.{IsOrigin, header_at, header_roles}
-use Rattle.laws_sound.proofs.Legs.{found}
+use Rattle.io_model.specs.Opening.{IsOrigin, header_at, header_roles}
+use Rattle.io_sound.proofs.Legs.{found}
 
 -- the role past the eight is a spare's, and below them that of the header
 pub role_at : (legs spares l : ℕ) → legs ≤ l → role_of (header_roles legs spares) l ≡ Spare

@@ -5,12 +5,13 @@ use Rattle.std.proofs.Common.{get_or-set_same}
 use Rattle.std.proofs.Math.Seq.{map-set_same}
 use Rattle.std.proofs.lemmas.List.{get_or-map}
 use Rattle.std.proofs.lemmas.Option.{slice_get-get_or}
-use Rattle.std.specs.Prelude.{is_some}
+use Rattle.std.specs.Prelude.{is_some, Result, Ok, Err, OnErr}
+use Rattle.mdc_types.specs.Faults.{HasCause, Rose}
 use Rattle.mdc_types.specs.declared.numbers.Sector.{Sector}
 use Rattle.leg_store.specs.Leg.{put, HasLength, Gives}
-use Rattle.cluster_model.specs.Run.{put as moved}
-use Rattle.cluster_model.specs.Opening.{zero_sector}
-use Rattle.cluster_model.proofs.Same.{SameLegs, same_legs, get-set}
+use Rattle.io_model.specs.Run.{put as moved}
+use Rattle.io_model.specs.Opening.{zero_sector}
+use Rattle.io_model.proofs.Same.{SameLegs, same_legs, get-set}
 use Rattle.world_state.specs.Told.{legs_of, sectors_of}
 
 -- what is told of a leg that was written
@@ -25,6 +26,11 @@ legs_put cs l s size v lt long within = same_legs _ _ (told_put cs (get_or cs l 
 pub gives : (x : Option (List Sector)) (s size : ℕ) (v : Sector) → HasLength x size → s < size → Gives x s v → is_some x ≡ true → v ≡ get_or (sectors_of x) s zero_sector
 gives None s size v long within g told = cc
 gives (Some c) s size v long within g told = grind (arith, slice_get-get_or c s zero_sector (omega (arith, long, within)))
+
+-- where each error is a fault, an error says that the count rose
+pub rose_on_err : {T E : Type 0} (r : Result T E) (before now : ℕ) → HasCause (λ e. true) before now r → OnErr r (Rose before now)
+rose_on_err (Ok x) before now h = tt
+rose_on_err (Err e) before now h = h.failed e refl refl
 
 module _ {X Y : Type 0} (f : X → Y) (xs : List X) (i : ℕ) (old new : X) (lt : i < length xs) (is : old ≡ get_or xs i old) where
   pub mapped_same : f new ≡ f old → map f (set xs i new) ≡ map f xs

@@ -9,7 +9,7 @@ use Rattle.mdc_types.specs.Bits.{has_bit, with_bit}
 use Rattle.mdc_types.proofs.BitsLaws.{has_bit-with_bit}
 use Rattle.mirror_io.specs.declared.live.LiveWrite.{LiveWrite}
 use Rattle.mirror_io.specs.Flight.{write_within, write_in, start_in, missing_leg}
-use Rattle.cluster_model.specs.Table.{any_of_sector}
+use Rattle.io_model.specs.Table.{any_of_sector}
 
 same_or_not : (i k : ℕ) → (i ≡ k) ⊎ (i ≢ k)
 same_or_not i k = grind (arith, nat_tests)

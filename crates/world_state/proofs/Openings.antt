@@ -9,8 +9,8 @@ use Rattle.mdc_types.specs.Geometry.{nodes_of}
 use Rattle.mdc_types.specs.Roles.{role_of}
 use Rattle.mdc_types.specs.declared.roles.Role.TheVariants.{Spare}
 use Rattle.mdc_types.specs.declared.roles.NodeState.TheVariants.{Up}
-use Rattle.cluster_model.specs.Opening.{Origin, IsOrigin, core_at, of_member}
-use Rattle.cluster_model.proofs.Same.{same_core}
+use Rattle.io_model.specs.Opening.{Origin, IsOrigin, core_at, of_member}
+use Rattle.io_model.proofs.Same.{same_core}
 use Rattle.world_state.specs.Seen.{Node, AreAtOpening, at, no_node, node_at, core_of}
 use Rattle.world_state.proofs.NodeLaws.{has_bit_past}
 

@@ -10,8 +10,8 @@ use Rattle.mdc_types.specs.declared.roles.NodeState.{NodeState}
 use Rattle.mdc_types.specs.declared.roles.NodeState.TheVariants.{Up, Out}
 use Rattle.mirror_io.specs.Flight.{Flight, no_flight, missing_leg}
 use Rattle.mirror_io.specs.declared.live.LiveWrite.{LiveWrite}
-use Rattle.cluster_model.specs.State.{Core}
-use Rattle.cluster_model.specs.Opening.{Origin, of_member}
+use Rattle.io_model.specs.State.{Core}
+use Rattle.io_model.specs.Opening.{Origin, of_member}
 
 -- the parts of one node
 pub record Node : Type 0 where

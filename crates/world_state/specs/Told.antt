@@ -9,9 +9,9 @@ use Rattle.mdc_types.specs.declared.outcomes.Outcome.{Outcome}
 use Rattle.mdc_types.specs.declared.outcomes.Outcome.TheVariants.{Lost, Io}
 use Rattle.mirror_io.specs.Flight.{read_in}
 use Rattle.mirror_io.specs.declared.live.LiveRead.{LiveRead}
-use Rattle.cluster_model.specs.State.{State, Core, Legs}
-use Rattle.cluster_model.specs.Effects.{read_leg}
-use Rattle.cluster_model.specs.Opening.{zero_sector}
+use Rattle.io_model.specs.State.{State, Core, Legs}
+use Rattle.io_model.specs.Effects.{read_leg}
+use Rattle.io_model.specs.Opening.{zero_sector}
 use Rattle.world_state.specs.Seen.{Parts, core_of}
 
 abbrev pub sectors_of : Option (List Sector) → List Sector

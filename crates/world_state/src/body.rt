@@ -1,5 +1,5 @@
 ghost use Rattle.std.specs.Prelude.{◌≡◌, ◌<◌, [], ◌∷◌, ◌++◌, vec_len, vec_capacity};
-ghost use Rattle.cluster_model.specs.Run.{entry};
+ghost use Rattle.io_model.specs.Run.{entry};
 
 use crate::CoreState;
 use leg_store::LegDev;

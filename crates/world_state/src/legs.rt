@@ -1,7 +1,7 @@
 ghost use Rattle.std.specs.Prelude.{◌≡◌, ◌<◌, ◌⊎◌, List, ℕ, Option, Some, None, true, false, length, map, get_or, IfOk, OnErr, MatchResult};
 ghost use Rattle.mdc_types.specs.declared.numbers.Sector.{Sector};
 ghost use Rattle.mdc_types.specs.Faults.{Rose};
-ghost use Rattle.cluster_model.specs.Run.{put};
+ghost use Rattle.io_model.specs.Run.{put};
 ghost use Rattle.world_state.specs.Told.{fault_at, legs_of};
 
 use leg_store::LegDev;

@@ -4,7 +4,7 @@ ghost use Rattle.mdc_types.specs.Bits.{has_bit, with_bit};
 ghost use Rattle.mdc_types.specs.Roles.{is_written, is_working, role_of};
 ghost use Rattle.read_balance.specs.Choice.{nearest_leg};
 ghost use Rattle.mirror_io.specs.Flight.{write_in, read_in, without_write, without_read, new_write, new_read, start_in, done_in, missing_leg};
-ghost use Rattle.cluster_model.specs.Table.{any_of_sector};
+ghost use Rattle.io_model.specs.Table.{any_of_sector};
 ghost use Rattle.world_state.specs.Seen.{node_at, writes_with, reads_with, node_writes, node_reads, node_head, unwritten_at};
 
 use crate::Opening;

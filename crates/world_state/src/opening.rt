@@ -1,7 +1,7 @@
 ghost use Rattle.std.specs.Prelude.{◌≡◌, ◌≤◌, ◌<◌, ◌^◌, ◌-◌, false, IfOk, map, replicate, ◌∷◌, []};
 ghost use Rattle.mdc_types.specs.Bits.{has_bit};
 ghost use Rattle.mdc_types.specs.Geometry.{nodes_of};
-ghost use Rattle.cluster_model.specs.Opening.{header_at, header_role, header_roles, zero_sector, IsOrigin};
+ghost use Rattle.io_model.specs.Opening.{header_at, header_role, header_roles, zero_sector, IsOrigin};
 
 use mdc_types::{Geometry, LegId, NodeId, Role, Roles, Sector, has_leg, has_node};
 use std::alloc::{AllocError, Global};
@@ -23,7 +23,7 @@ pub struct Opening {
 
 impl Model for Opening {
     ghost use Rattle.std.specs.Prelude.{map};
-    ghost use Rattle.cluster_model.specs.Opening.{Origin};
+    ghost use Rattle.io_model.specs.Opening.{Origin};
 
     ghost Value = { Origin };
 

@@ -1,7 +1,7 @@
 ghost use Rattle.std.specs.Prelude.{◌≡◌, ◌<◌, ◌≤◌, ◌+◌, IfOk};
 ghost use Rattle.mdc_types.specs.Geometry.{nodes_of, data_offset};
-ghost use Rattle.cluster_model.specs.Table.{no_node, no_leg};
-ghost use Rattle.cluster_model.specs.Opening.{IsOrigin, core_at};
+ghost use Rattle.io_model.specs.Table.{no_node, no_leg};
+ghost use Rattle.io_model.specs.Opening.{IsOrigin, core_at};
 ghost use Rattle.world_state.specs.Seen.{Judges, at, core_of, AreAtOpening};
 
 use crate::{NodeParts, Opening};

@@ -1,9 +1,9 @@
 use Rattle.std.proofs.Common.{arith, ◌≡◌, ◌∙◌, sym, subst, length}
 use Rattle.std.proofs.lemmas.List.{get_or_default}
 use Rattle.mdc.proofs.Played.{takes_told, next_line, cut_at, halt_at, full_at}
-use Rattle.cluster_model.specs.Opening.{Origin}
+use Rattle.io_model.specs.Opening.{Origin}
 use Rattle.cluster_core.specs.World.{state}
-use Rattle.laws_history.specs.Laws.{WorkingLegsTell}
+use Rattle.io_history.specs.Laws.{WorkingLegsTell}
 use Rattle.mdc.proofs.lines.play_lines.Goals as goal
 
 pub play_line-requires-clause-told : goal.play_line-requires-clause-told

@@ -1,5 +1,5 @@
 use Rattle.std.proofs.Common.{◌≡◌, ◌≤◌, take}
-use Rattle.laws_history.specs.Laws.{WorkingLegsTell}
+use Rattle.io_history.specs.Laws.{WorkingLegsTell}
 use Rattle.cluster_core.specs.World.{state}
 use Rattle.mdc.specs.Lines.{Sofar}
 use Rattle.mdc.proofs.lines.play_lines.Given as goal

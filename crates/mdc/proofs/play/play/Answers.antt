@@ -1,4 +1,4 @@
-use Rattle.std.proofs.Common.{Ok, Err, sym, ◌∙◌, ap}
+use Rattle.std.proofs.Common.{Ok, Err, refl, sym, ◌∙◌, ap}
 use Rattle.std.specs.Prelude.{map}
 use Rattle.std.specs.String.{string_bytes}
 use Rattle.mdc.proofs.Answering.{play_answers, lock_answers, cut_answers}
@@ -52,4 +52,4 @@ returns-in-Err-Failed-clause-answers g c =
       source_faults_after = g.S.Source.faults c.read_input.new.source;
       sink_faults = g.K.Sink.faults c.args.sink.now;
       sink_faults_after = g.K.Sink.faults c.write_all.new.sink;
-    }) c.in-Ok.command (sym c.read_words.ensures ∙ c.in-Ok.is) c.in-Err.ensures.cause.failed (c.in-Err-Failed.ensures.failed (ap Err c.in-Err-Failed.field-0-is)) c.in-Err.ensures.err
+    }) c.in-Ok.command (sym c.read_words.ensures ∙ c.in-Ok.is) (c.in-Err.ensures.cause.failed _ refl refl) (c.in-Err-Failed.ensures.failed (ap Err c.in-Err-Failed.field-0-is)) c.in-Err.ensures.err

@@ -1,8 +1,8 @@
 use Rattle.std.proofs.Common.{◌≡◌, None, subst, set}
 use Rattle.mdc_types.specs.declared.events.Event.TheVariants.{AskRead}
 use Rattle.mdc_types.specs.declared.outcomes.Outcome.TheVariants.{Read}
-use Rattle.cluster_model.specs.Table.{refusal}
-use Rattle.cluster_model.specs.Effects.{after}
+use Rattle.io_model.specs.Table.{refusal}
+use Rattle.io_model.specs.Effects.{after}
 use Rattle.world_state.specs.Seen.{Parts, core_of}
 use Rattle.world_state.specs.contracts.state.CoreState.{the_view}
 use Rattle.world_io.proofs.Effecting.{ask_read_seen}

@@ -3,8 +3,8 @@ use Rattle.mdc_types.specs.declared.events.Event.TheVariants.{Out}
 use Rattle.mdc_types.specs.declared.outcomes.Outcome.TheVariants.{Done}
 use Rattle.mirror_io.specs.declared.live.LiveWrite.{LiveWrite}
 use Rattle.mirror_io.specs.Flight.{write_in}
-use Rattle.cluster_model.specs.Table.{refusal}
-use Rattle.cluster_model.specs.Effects.{after}
+use Rattle.io_model.specs.Table.{refusal}
+use Rattle.io_model.specs.Effects.{after}
 use Rattle.world_state.specs.Seen.{Parts, core_of}
 use Rattle.world_state.specs.contracts.state.CoreState.{the_view}
 use Rattle.world_io.proofs.Effecting.{out_done_seen}

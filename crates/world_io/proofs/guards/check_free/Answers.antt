@@ -1,7 +1,7 @@
 use Rattle.std.proofs.Common.{◌≡◌, ◌<◌, ◌≤◌, true, false, sym, ◌∙◌, ap, arith}
 use Rattle.dlm_modes.proofs.FirstLaws.{first_such_more, first_such_found, first_such_end}
 use Rattle.mdc_types.specs.Geometry.{nodes_of}
-use Rattle.cluster_model.specs.Table.{any_of_sector, in_flight}
+use Rattle.io_model.specs.Table.{any_of_sector, in_flight}
 use Rattle.world_state.specs.Seen.{at}
 use Rattle.world_io.proofs.guards.check_free.Goals as goal
 

@@ -1,7 +1,7 @@
 use Rattle.std.proofs.Common.{◌≡◌, ◌-◌}
 use Rattle.dlm_modes.specs.First.{first_such}
 use Rattle.mdc_types.specs.Geometry.{nodes_of}
-use Rattle.cluster_model.specs.Table.{any_of_sector, writer_of}
+use Rattle.io_model.specs.Table.{any_of_sector, writer_of}
 use Rattle.world_state.specs.Seen.{at, core_of}
 use Rattle.world_io.proofs.guards.check_free.Given as goal
 

@@ -1,7 +1,7 @@
 use Rattle.std.proofs.Common.{◌≡◌, sym, ◌∙◌, refl, arith, None}
 use Rattle.std.specs.Prelude.{is_some, false}
-use Rattle.cluster_model.specs.Effects.{read_leg}
-use Rattle.cluster_model.proofs.Guards.{in_at}
+use Rattle.io_model.specs.Effects.{read_leg}
+use Rattle.io_model.proofs.Guards.{in_at}
 use Rattle.world_state.specs.Seen.{core_of}
 use Rattle.world_io.proofs.Reading.{some_leg_for, leg_there}
 use Rattle.world_io.proofs.rows.leg_for.Goals as goal

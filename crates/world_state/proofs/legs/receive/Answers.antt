@@ -1,6 +1,6 @@
 use Rattle.std.proofs.Common.{None, arith}
 use Rattle.std.proofs.lemmas.Result.{IfOk-weaker}
-use Rattle.world_state.proofs.LegLaws.{mapped_same, mapped_at, mapped_new, gives}
+use Rattle.world_state.proofs.LegLaws.{mapped_same, mapped_at, mapped_new, gives, rose_on_err}
 use Rattle.world_state.proofs.legs.receive.Goals as goal
 
 pub returns-clause-contents : goal.returns-clause-contents
@@ -13,7 +13,7 @@ pub returns-clause-cause : goal.returns-clause-cause
 returns-clause-cause g c =
     let old = mapped_at g.L.LegDev.faults c.args.legs.now.items c.args.l c.index_mut-leg.result.now c.read.new.self c.requires.there c.index_mut-leg.ensures.value 0 in
     let new = mapped_new g.L.LegDev.faults c.args.legs.now.items c.args.l c.index_mut-leg.result.now c.read.new.self c.requires.there c.index_mut-leg.ensures.value 0 in
-    rw (old, new) c.read.ensures.cause.failed
+    rw (old, new) (rose_on_err _ _ _ c.read.ensures.cause)
 
 pub returns-clause-value : goal.returns-clause-value
 returns-clause-value g c =

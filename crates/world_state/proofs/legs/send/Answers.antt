@@ -1,7 +1,7 @@
 use Rattle.std.proofs.Common.{None, map, ap, inl, inr, arith}
 use Rattle.std.proofs.lemmas.List.{map-set, length-map}
 use Rattle.std.proofs.lemmas.Result.{MatchResult-weaker}
-use Rattle.world_state.proofs.LegLaws.{mapped_same, mapped_at, mapped_new, legs_put}
+use Rattle.world_state.proofs.LegLaws.{mapped_same, mapped_at, mapped_new, legs_put, rose_on_err}
 use Rattle.world_state.specs.Told.{legs_of}
 use Rattle.world_state.proofs.legs.send.Goals as goal
 
@@ -29,4 +29,4 @@ pub returns-clause-cause : goal.returns-clause-cause
 returns-clause-cause g c =
     let old = mapped_at g.L.LegDev.faults c.args.legs.now.items c.args.l c.index_mut-leg.result.now c.write.new.self c.requires.there c.index_mut-leg.ensures.value 0 in
     let new = mapped_new g.L.LegDev.faults c.args.legs.now.items c.args.l c.index_mut-leg.result.now c.write.new.self c.requires.there c.index_mut-leg.ensures.value 0 in
-    rw (old, new) c.write.ensures.cause.failed
+    rw (old, new) (rose_on_err _ _ _ c.write.ensures.cause)

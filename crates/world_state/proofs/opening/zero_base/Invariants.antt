@@ -1,6 +1,6 @@
 use Rattle.std.proofs.Common.{◌≡◌, [], ◌∷◌, map}
 use Rattle.std.specs.Prelude.{replicate}
-use Rattle.cluster_model.specs.Opening.{zero_sector}
+use Rattle.io_model.specs.Opening.{zero_sector}
 use Rattle.world_state.proofs.opening.zero_base.Given as goal
 
 abbrev pub invariant-loop-s : goal.invariant-loop-s

@@ -1,8 +1,8 @@
 use Rattle.std.proofs.Common.{◌≡◌, [], ◌∷◌, ◌++◌, length, refl, ◌∙◌, ap, arith}
 use Rattle.std.specs.Prelude.{reverse, ◌<◌}
 use Rattle.std.proofs.lemmas.List.{reverse-append, length-reverse}
-use Rattle.cluster_model.specs.Run.{entry}
-use Rattle.laws_sound.proofs.Runs.{run_sound, run_counted}
+use Rattle.io_model.specs.Run.{entry}
+use Rattle.io_sound.proofs.Runs.{run_sound, run_counted}
 use Rattle.cluster_core.specs.World.{trace_limit}
 use Rattle.cluster_core.proofs.Reaching.{same_sizes, one_more}
 use Rattle.cluster_core.proofs.world.World.step.Goals as goal

@@ -1,6 +1,6 @@
 use Rattle.std.proofs.Common.{sym, subst}
 use Rattle.std.proofs.lemmas.Result.{IfOk-weaker}
-use Rattle.cluster_model.specs.Opening.{IsOrigin}
+use Rattle.io_model.specs.Opening.{IsOrigin}
 use Rattle.world_state.proofs.Headers.{header_origin}
 use Rattle.world_state.proofs.opening.Opening.header.Goals as goal
 

@@ -1,0 +1,5 @@
+pub mod State
+pub mod Table
+pub mod Effects
+pub mod Run
+pub mod Opening

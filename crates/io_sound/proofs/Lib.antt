@@ -1,0 +1,4 @@
+pub mod Legs
+pub mod Ways
+pub mod Steps
+pub mod Runs
