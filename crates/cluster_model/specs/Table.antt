@@ -1,103 +1,83 @@
--- The table: for each event its guards in order.
-use Rattle.std.specs.Prelude.{ℕ, ◌==◌, nat_lt, length, Bool, true, false, ◌||◌, List, [], ◌∷◌, Option, Some, None}
-use Rattle.dlm_modes.specs.First.{first_such}
-use Rattle.dlm_modes.specs.Guards.{unless, first_of}
-use Rattle.mdc_types.specs.Geometry.{nodes_of}
-use Rattle.mdc_types.specs.Roles.{state_word}
+-- The table: the guards of each event, in order.
+use Rattle.std.specs.Prelude.{List, Option}
+use Rattle.dlm_modes.specs.Guards.{first_of}
 use Rattle.mdc_types.specs.declared.events.Event.{Event}
-use Rattle.mdc_types.specs.declared.events.Event.TheVariants.{AskWrite, Out, EndWrite, AskRead, In}
+use Rattle.mdc_types.specs.declared.events.Event.TheVariants.{Cut, Mend, Die, Grant, Join, Load}
+use Rattle.mdc_types.specs.declared.events.Event.TheVariants.{Up, Leave, AskToken, AskMessage}
+use Rattle.mdc_types.specs.declared.events.Event.TheVariants.{Offer, WriteSuper, Publish}
+use Rattle.mdc_types.specs.declared.events.Event.TheVariants.{FinishRound, Quit, Take, Processed}
+use Rattle.mdc_types.specs.declared.events.Event.TheVariants.{Resume, DropMessage, AskWrite}
+use Rattle.mdc_types.specs.declared.events.Event.TheVariants.{WritePage, Out, EndWrite, BreakWrite}
+use Rattle.mdc_types.specs.declared.events.Event.TheVariants.{AskRead, In, Clear, AskResync}
+use Rattle.mdc_types.specs.declared.events.Event.TheVariants.{Gather, PassOwn, PassFull, PassAgain}
+use Rattle.mdc_types.specs.declared.events.Event.TheVariants.{CopyIn, CopyOut, Settle, EndPass}
+use Rattle.mdc_types.specs.declared.events.Event.TheVariants.{Recover, SlotIn, SlotOut, Recovered}
+use Rattle.mdc_types.specs.declared.events.Event.TheVariants.{LockDevice}
 use Rattle.mdc_types.specs.declared.refusals.Refusal.{Refusal}
-use Rattle.mdc_types.specs.declared.refusals.Refusal.TheVariants.{NoNode, NotUp, NoLeg, NotPhase, NoSector, NoWrite, NoRead, NotNeeded, Unacked, NotTarget, NotWritten, InFlight, Full}
-use Rattle.mdc_types.specs.declared.refusals.Part.TheVariants as parts
-use Rattle.mdc_types.specs.declared.roles.NodeState.{NodeState}
-use Rattle.mdc_types.specs.declared.roles.NodeState.TheVariants as states
-use Rattle.mirror_io.specs.declared.live.LiveWrite.{LiveWrite}
-use Rattle.mirror_io.specs.declared.live.LiveRead.{LiveRead}
-use Rattle.mirror_io.specs.Flight.{write_in, read_in, missing_leg}
-use Rattle.cluster_model.specs.State.{Core, is_target}
+use Rattle.cluster_model.specs.State.{Core}
+use Rattle.cluster_model.specs.Granting.{path_guards, grant_guards}
+use Rattle.cluster_model.specs.Joining.{join_guards, load_guards, up_guards}
+use Rattle.cluster_model.specs.Leaving.{leave_guards, die_guards}
+use Rattle.cluster_model.specs.Rounds.{token_guards, message_guards, quit_guards, lockdev_guards}
+use Rattle.cluster_model.specs.Wishes.{offer_guards}
+use Rattle.cluster_model.specs.Superblocks.{sb_guards}
+use Rattle.cluster_model.specs.Publishing.{publish_guards}
+use Rattle.cluster_model.specs.Finishing.{finish_guards}
+use Rattle.cluster_model.specs.Receiving.{take_guards, resume_guards}
+use Rattle.cluster_model.specs.Processing.{processed_guards}
+use Rattle.cluster_model.specs.Receiving.{drop_guards}
+use Rattle.cluster_model.specs.Writes.{w_guards, out_guards, ok_guards, break_guards}
+use Rattle.cluster_model.specs.Reads.{r_guards, in_guards}
+use Rattle.cluster_model.specs.Bits.{bit_guards, clear_guards}
+use Rattle.cluster_model.specs.Passes.{resync_guards, pass_guards, pass_again_guards, done_guards}
+use Rattle.cluster_model.specs.Copying.{ci_guards, co_guards, settle_guards}
+use Rattle.cluster_model.specs.Gathering.{gather_guards}
+use Rattle.cluster_model.specs.Recovering.{rec_guards, slotin_guards, slotout_guards}
+use Rattle.cluster_model.specs.Recovering.{recovered_guards}
 
--- guards on the node
-
-abbrev pub no_node : Core → ℕ → Option Refusal
-no_node core n = unless (nat_lt n (nodes_of core.sizes)) (NoNode n)
-
-abbrev pub not_live : ℕ → NodeState → Option Refusal
-not_live n states.Out = Some (NotUp n)
-not_live n s = None
-
-abbrev pub not_up : NodeState → Option Refusal
-not_up states.Up = None
-not_up s = Some (NotPhase parts.State (state_word s))
-
--- guards on legs and sectors
-
-abbrev pub no_leg : Core → ℕ → Option Refusal
-no_leg core l = unless (nat_lt l core.sizes.legs) (NoLeg l)
-
-abbrev pub not_target : Core → ℕ → ℕ → Option Refusal
-not_target core n l = unless (is_target core n l) (NotTarget l)
-
--- the first leg that the node lost, whose loss the others have not acknowledged
-abbrev pub unacked_leg : Core → ℕ → Option ℕ
-unacked_leg core n = first_such (core.lost n) 0 8
-
-abbrev pub unacked : Option ℕ → Option Refusal
-unacked None = None
-unacked (Some l) = Some (Unacked l)
-
-abbrev pub no_sector : Core → ℕ → ℕ → Option Refusal
-no_sector core n s = unless (nat_lt s (core.sure_size n)) (NoSector s)
-
--- guards on what is in flight
-
--- one of the writes is of this sector
-abbrev pub any_of_sector : ℕ → List LiveWrite → Bool
-any_of_sector s [] = false
-any_of_sector s (w ∷ ws) = (w.sector == s) || any_of_sector s ws
-
--- the least node with a live write of the sector
-abbrev pub writer_of : Core → ℕ → Option ℕ
-writer_of core s = first_such (λ m. any_of_sector s (core.writes m)) 0 (nodes_of core.sizes)
-
-abbrev pub in_flight : Option ℕ → Option Refusal
-in_flight None = None
-in_flight (Some m) = Some (InFlight m)
-
-abbrev pub full : ℕ → ℕ → Option Refusal
-full n count = unless (nat_lt count 16) (Full n)
-
-abbrev pub no_write : ℕ → Option LiveWrite → Option Refusal
-no_write k None = Some (NoWrite k)
-no_write k (Some w) = None
-
-abbrev pub no_read : ℕ → Option LiveRead → Option Refusal
-no_read k None = Some (NoRead k)
-no_read k (Some r) = None
-
--- the least target that doesn't have the write's value
-abbrev pub unwritten_leg : Core → ℕ → Option LiveWrite → Option ℕ
-unwritten_leg core n None = None
-unwritten_leg core n (Some w) = missing_leg (is_target core n) w
-
-abbrev pub not_written : Option ℕ → Option Refusal
-not_written None = None
-not_written (Some l) = Some (NotWritten l)
-
--- the events that have their row
-abbrev pub is_built : Event → Bool
-is_built (AskWrite n s v) = true
-is_built (Out n k l) = true
-is_built (EndWrite n k) = true
-is_built (AskRead n s) = true
-is_built (In n k) = true
-is_built e = false
+abbrev pub guards : Core → Event → List (Option Refusal)
+guards core (Cut n l) = path_guards core n l
+guards core (Mend n l) = path_guards core n l
+guards core (Die n) = die_guards core n
+guards core (Grant res) = grant_guards core res
+guards core (Join n) = join_guards core n
+guards core (Load n l) = load_guards core n l
+guards core (Up n) = up_guards core n
+guards core (Leave n) = leave_guards core n
+guards core (AskToken n) = token_guards core n
+guards core (AskMessage n) = message_guards core n
+guards core (Offer n wish) = offer_guards core n wish
+guards core (WriteSuper n l) = sb_guards core n l
+guards core (Publish n) = publish_guards core n
+guards core (FinishRound n) = finish_guards core n
+guards core (Quit n) = quit_guards core n
+guards core (Take n) = take_guards core n
+guards core (Processed n) = processed_guards core n
+guards core (Resume n) = resume_guards core n
+guards core (DropMessage n) = drop_guards core n
+guards core (AskWrite n s v) = w_guards core n s
+guards core (WritePage n p l) = bit_guards core n p l
+guards core (Out n k l) = out_guards core n k l
+guards core (EndWrite n k) = ok_guards core n k
+guards core (BreakWrite n k) = break_guards core n k
+guards core (AskRead n s) = r_guards core n s
+guards core (In n k) = in_guards core n k
+guards core (Clear n c) = clear_guards core n c
+guards core (AskResync n) = resync_guards core n
+guards core (Gather n) = gather_guards core n
+guards core (PassOwn n) = pass_guards core n
+guards core (PassFull n) = pass_guards core n
+guards core (PassAgain n l) = pass_again_guards core n l
+guards core (CopyIn n) = ci_guards core n
+guards core (CopyOut n l) = co_guards core n l
+guards core (Settle n) = settle_guards core n
+guards core (EndPass n) = done_guards core n
+guards core (Recover n d) = rec_guards core n d
+guards core (SlotIn n p l) = slotin_guards core n p l
+guards core (SlotOut n p l) = slotout_guards core n p l
+guards core (Recovered n) = recovered_guards core n
+guards core (LockDevice n) = lockdev_guards core n
 
 -- the first guard of the event that fails
 abbrev pub refusal : Core → Event → Option Refusal
-refusal core (AskWrite n s v) = first_of (no_node core n ∷ not_live n (core.state n) ∷ not_up (core.state n) ∷ no_sector core n s ∷ in_flight (writer_of core s) ∷ full n (length (core.writes n)) ∷ [])
-refusal core (Out n k l) = first_of (no_node core n ∷ not_live n (core.state n) ∷ no_leg core l ∷ not_up (core.state n) ∷ no_write k (write_in k (core.writes n)) ∷ not_target core n l ∷ unacked (unacked_leg core n) ∷ [])
-refusal core (EndWrite n k) = first_of (no_node core n ∷ not_live n (core.state n) ∷ not_up (core.state n) ∷ no_write k (write_in k (core.writes n)) ∷ unacked (unacked_leg core n) ∷ not_written (unwritten_leg core n (write_in k (core.writes n))) ∷ [])
-refusal core (AskRead n s) = first_of (no_node core n ∷ not_live n (core.state n) ∷ not_up (core.state n) ∷ no_sector core n s ∷ full n (length (core.reads n)) ∷ [])
-refusal core (In n k) = first_of (no_node core n ∷ not_live n (core.state n) ∷ not_up (core.state n) ∷ no_read k (read_in k (core.reads n)) ∷ [])
--- no other event has its row yet
-refusal core e = Some NotNeeded
+refusal core e = first_of (guards core e)
