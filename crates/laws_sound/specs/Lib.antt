@@ -1,1 +1,4 @@
-pub mod Sound
+pub mod Legs
+pub mod Requests
+pub mod Copies
+pub mod Laws
