@@ -1,7 +1,10 @@
+mod Guards
+mod Ways
 mod Flying
 mod Seeing
 mod Having
-mod Working
+mod Losing
+mod Steps
 mod Beginning
 pub mod Places
 pub mod Runs
