@@ -132,3 +132,23 @@ done_recovering = refl
 done_window : failing (guards (copies a_pass (Some a_range)) (EndPass 0)) ≡ (Window 4) ∷ []
 unfolding first_such
 done_window = refl
+
+again_not_up : failing (guards (record gathering { state = λ n. states.Loaded; adding = λ n. all_gathered }) (PassAgain 0 2)) ≡ (NotPhase parts.State words.Loaded) ∷ []
+unfolding first_such
+again_not_up = refl
+
+again_not_held : failing (guards (record gathering { copy = λ n. asked_copy; adding = λ n. all_gathered }) (PassAgain 0 2)) ≡ (NotPhase parts.Copy words.Asked) ∷ []
+unfolding first_such
+again_not_held = refl
+
+again_unacked : failing (guards (record gathering { view = λ n. unacked_view; adding = λ n. all_gathered }) (PassAgain 0 2)) ≡ (Unacked 1) ∷ []
+unfolding first_such
+again_unacked = refl
+
+co_not_up : failing (guards (record (copies with_buffer (Some a_range)) { state = λ n. states.Loaded }) (CopyOut 0 1)) ≡ (NotPhase parts.State words.Loaded) ∷ []
+unfolding first_such
+co_not_up = refl
+
+settle_not_up : failing (guards (record (copies with_buffer (Some a_range)) { state = λ n. states.Loaded }) (Settle 0)) ≡ (NotPhase parts.State words.Loaded) ∷ (NotWritten 1) ∷ []
+unfolding first_such
+settle_not_up = refl

@@ -105,3 +105,7 @@ recovered_not_written = refl
 recovered_needed : failing (guards (record all_cleared { bitmap = λ n. record fresh_bitmap { need = λ c. true } }) (Recovered 0)) ≡ (Needed 2) ∷ []
 unfolding first_such
 recovered_needed = refl
+
+slotout_not_up : failing (guards (record all_read { state = λ n. states.Loaded }) (SlotOut 0 0 0)) ≡ (NotPhase parts.State words.Loaded) ∷ []
+unfolding first_such
+slotout_not_up = refl

@@ -57,6 +57,10 @@ calls_leg r = new_view (roles_with r) 12 (λ l. false)
 abbrev pub unacked_view : NodeView
 unacked_view = new_view (roles_with roles.Spare) 12 (λ l. l == 1)
 
+-- the same, and leg 2 has this role
+abbrev pub lost_with : Role → NodeView
+lost_with r = new_view (roles_with r) 12 (λ l. l == 1)
+
 abbrev pub lost_and_faulty : NodeView
 lost_and_faulty = new_view (roles_with roles.Faulty) 12 (λ l. l == 1)
 

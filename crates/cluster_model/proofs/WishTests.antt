@@ -12,7 +12,7 @@ use Rattle.mdc_types.specs.declared.events.Wish.TheVariants as wishes
 use Rattle.msg_rounds.specs.declared.phases.SenderPhase.TheVariants as senders
 use Rattle.disk_addition.specs.declared.addition.Addition.TheVariants.{Announced, Removing, ReAdd}
 use Rattle.cluster_model.specs.Table.{guards}
-use Rattle.cluster_model.proofs.Small.{failing, calls_leg, lost_and_faulty, all_faulty, faulty_and_rebuilding, up_members, last_members, sends, sends_with, lost_legs, a_range, adds, a_write, a_read, asked_copy, works_now}
+use Rattle.cluster_model.proofs.Small.{failing, calls_leg, lost_with, lost_and_faulty, all_faulty, faulty_and_rebuilding, up_members, last_members, sends, sends_with, lost_legs, a_range, adds, a_write, a_read, asked_copy, works_now}
 
 loaded : failing (guards (record (sends senders.MessageHeld) { state = λ n. states.Loaded }) (Offer 0 (wishes.Remove 3))) ≡ (NotPhase parts.State words.Loaded) ∷ (NoLeg 3) ∷ (NotRole 3 roles.Spare) ∷ []
 unfolding first_such
@@ -125,3 +125,63 @@ grow_too_far = refl
 grow_no_more : failing (guards (sends senders.MessageHeld) (Offer 0 (wishes.Grow 12))) ≡ (NoSize 12) ∷ []
 unfolding first_such
 grow_no_more = refl
+
+spare_no_events : failing (guards (record (sends_with (calls_leg roles.Faulty)) { adding = λ n. adds (Removing 2); members = last_members }) (Offer 0 (wishes.Spare 2))) ≡ (NoEvents (2 ^ 63)) ∷ []
+unfolding first_such
+spare_no_events = refl
+
+rebuild_unacked : failing (guards (record (sends_with lost_and_faulty) { adding = λ n. adds (ReAdd 2) }) (Offer 0 (wishes.Rebuild 2))) ≡ (Unacked 1) ∷ []
+unfolding first_such
+rebuild_unacked = refl
+
+rebuild_no_leg : failing (guards (record (sends_with all_faulty) { adding = λ n. adds (ReAdd 5) }) (Offer 0 (wishes.Rebuild 5))) ≡ (NoLeg 5) ∷ []
+unfolding first_such
+rebuild_no_leg = refl
+
+rebuild_no_events : failing (guards (record (sends_with (calls_leg roles.Faulty)) { adding = λ n. adds (ReAdd 2); members = last_members }) (Offer 0 (wishes.Rebuild 2))) ≡ (NoEvents (2 ^ 63)) ∷ []
+unfolding first_such
+rebuild_no_events = refl
+
+work_unacked : failing (guards (record (works_now true) { view = λ n. lost_with roles.Rebuilding }) (Offer 0 (wishes.Work 2))) ≡ (Unacked 1) ∷ []
+unfolding first_such
+work_unacked = refl
+
+work_no_leg : failing (guards (works_now true) (Offer 0 (wishes.Work 5))) ≡ (NoLeg 5) ∷ (NotRole 5 roles.Spare) ∷ (NotCopied 5) ∷ []
+unfolding first_such
+work_no_leg = refl
+
+range_unacked : failing (guards (record (works_now true) { view = λ n. lost_with roles.Rebuilding }) (Offer 0 (wishes.Range a_range))) ≡ (Unacked 1) ∷ []
+unfolding first_such
+range_unacked = refl
+
+newdisk_unacked : failing (guards (sends_with (lost_with roles.Spare)) (Offer 0 (wishes.NewDisk 2))) ≡ (Unacked 1) ∷ []
+unfolding first_such
+newdisk_unacked = refl
+
+newdisk_no_leg : failing (guards (sends senders.MessageHeld) (Offer 0 (wishes.NewDisk 5))) ≡ (NoLeg 5) ∷ []
+unfolding first_such
+newdisk_no_leg = refl
+
+remove_unacked : failing (guards (sends_with lost_and_faulty) (Offer 0 (wishes.Remove 2))) ≡ (Unacked 1) ∷ []
+unfolding first_such
+remove_unacked = refl
+
+remove_no_leg : failing (guards (sends_with all_faulty) (Offer 0 (wishes.Remove 5))) ≡ (NoLeg 5) ∷ []
+unfolding first_such
+remove_no_leg = refl
+
+readd_unacked : failing (guards (sends_with lost_and_faulty) (Offer 0 (wishes.ReAdd 2))) ≡ (Unacked 1) ∷ []
+unfolding first_such
+readd_unacked = refl
+
+readd_no_leg : failing (guards (sends_with all_faulty) (Offer 0 (wishes.ReAdd 5))) ≡ (NoLeg 5) ∷ []
+unfolding first_such
+readd_no_leg = refl
+
+grow_unacked : failing (guards (sends_with (lost_with roles.Spare)) (Offer 0 (wishes.Grow 14))) ≡ (Unacked 1) ∷ []
+unfolding first_such
+grow_unacked = refl
+
+grow_no_events : failing (guards (record (sends senders.MessageHeld) { members = last_members }) (Offer 0 (wishes.Grow 14))) ≡ (NoEvents (2 ^ 63)) ∷ []
+unfolding first_such
+grow_no_events = refl
