@@ -1,4 +1,2 @@
-pub mod Headers
-pub mod LegLaws
-pub mod NodeLaws
-pub mod Openings
+pub mod Points
+mod LegLaws
