@@ -12,6 +12,7 @@ use Rattle.mdc_types.specs.declared.refusals.Refusal.TheVariants.{Blocked}
 use Rattle.mdc_types.specs.declared.roles.NodeState.{NodeState}
 use Rattle.mdc_types.specs.declared.roles.NodeState.TheVariants as states
 use Rattle.msg_rounds.specs.Holds.{receives_by_ack, sends_by_ack, sends_by_message, ack_conversion}
+use Rattle.msg_rounds.specs.Holds.{MayTake, MayResume}
 use Rattle.msg_rounds.specs.Locks.{message_res, ack_res}
 use Rattle.msg_rounds.specs.Phases.{is_idle, may_receive}
 use Rattle.msg_rounds.specs.Refusals.{is_ex, is_token_held, is_message_held, is_offered, is_taken, is_pr, may_resume}
@@ -20,7 +21,7 @@ use Rattle.msg_rounds.specs.declared.phases.ReceiverPhase.{ReceiverPhase}
 use Rattle.msg_rounds.specs.declared.phases.ReceiverPhase.TheVariants as receivers
 use Rattle.laws_rounds.specs.Machine as rounds
 use Rattle.laws_rounds.specs.Sound.{SoundAt}
-use Rattle.laws_rounds.proofs.Follows.{reached_sound}
+use Rattle.laws_rounds.proofs.Follows.{reached_sound, may_take, may_resume as resume_holds}
 use Rattle.cluster_model.specs.State.{Core, Held}
 use Rattle.cluster_model.specs.Guards.{refused_by, no_node, not_fenced, is_out}
 use Rattle.cluster_model.specs.Phases.{is_up, is_joining, is_held, copy_word, recovery_word, is_none as is_none_word}
@@ -168,21 +169,31 @@ module _ (members : ℕ → Bool) (past : List rounds.Entry) (core : Core) (k : 
       held_token : (s : SenderPhase) → is_token_held s ≡ true → has_token s ≡ true
       held_token s e = grind arith
 
-  take_free : (n : ℕ) → refusal core (events.Take n) ≡ None → ask_now_refusal (core.locks message_res) n CR ≡ None
-  take_free n e =
+  takes : (n : ℕ) → refusal core (events.Take n) ≡ None → MayTake core.locks n
+  takes n e =
       let l = living core n _ k.nodes e in
       let a = tested (is_up (core.state n)) _ _ l.rest in
       let b = tested (is_idle (core.receiver n).phase) _ _ a.1 in
       let c = tested (is_some (caller (core.locks ack_res) n)) _ _ b.1 in
-      let m = sound.may_take n (rw b.0 (rw c.0 refl)) in
+      may_take core.locks n (sound.may_take n (rw b.0 (rw c.0 refl)))
+
+  take_free : (n : ℕ) → refusal core (events.Take n) ≡ None → ask_now_refusal (core.locks message_res) n CR ≡ None
+  take_free n e =
+      let m = takes n e in
       may_ask_now (core.locks message_res) n CR m.free.0 m.free.1 (λ j ne. agree_cr _ (m.readable j ne))
+
+  resumes : (n : ℕ) → refusal core (events.Resume n) ≡ None → MayResume core.locks n
+  resumes n e =
+      let l = living core n _ k.nodes e in
+      let a = tested (may_resume (core.receiver n).phase) _ _ l.rest in
+      let b = tested (is_pr ((core.locks message_res).held n)) _ _ a.1 in
+      resume_holds core.locks n (sound.may_resume n (rw a.0 (rw b.0 refl)))
 
   resume_free : (n : ℕ) → refusal core (events.Resume n) ≡ None → ask_now_refusal (core.locks ack_res) n CR ≡ None
   resume_free n e =
       let l = living core n _ k.nodes e in
       let a = tested (may_resume (core.receiver n).phase) _ _ l.rest in
-      let b = tested (is_pr ((core.locks message_res).held n)) _ _ a.1 in
-      let m = sound.may_resume n (rw a.0 (rw b.0 refl)) in
+      let m = resumes n e in
       let p = resume_phase _ a.0 in
       let h = (sound.holds n).receiver in
       may_ask_now (core.locks ack_res) n CR (waits_ack _ _ p.0 (h.ack p.0) p.1) (h.ack_requests p.0) (λ j ne. agree_cr _ (m.takeable j ne))
@@ -228,6 +239,8 @@ module _ (members : ℕ → Bool) (past : List rounds.Entry) (core : Core) (k : 
     up_device = λ n e. (up_free n e).1;
     take = take_free;
     resume = resume_free;
+    may_take = takes;
+    may_resume = resumes;
     processed = processed_free;
     lock_asks = λ n e none. may_ask_now (core.locks no_new_dev) n EX (none_is _ none) (ap (asks_of n) o.device.requests) (lock_others n e);
     lock_converts = λ n e some. may_convert_now (core.locks no_new_dev) n EX some (ap (asks_of n) o.device.conversions) (lock_others n e);

@@ -3,6 +3,7 @@ use Rattle.std.specs.Prelude.{◌≡◌, ℕ, true, is_none, is_some, None}
 use Rattle.dlm_modes.specs.declared.mode.Mode.TheVariants.{CR, PW, EX}
 use Rattle.dlm_space.specs.Locks.{ask_now_refusal, convert_refusal, convert_now_refusal}
 use Rattle.mdc_types.specs.declared.events.Event.TheVariants.{Join, Up, Publish, Take, Processed, Resume, Recover, LockDevice}
+use Rattle.msg_rounds.specs.Holds.{MayTake, MayResume}
 use Rattle.msg_rounds.specs.Locks.{message_res, ack_res}
 use Rattle.msg_rounds.specs.Refusals.{is_ex}
 use Rattle.cluster_model.specs.State.{Core}
@@ -23,6 +24,9 @@ pub record Unblocked (core : Core) : Type 0 where
       → ask_now_refusal (core.locks message_res) n CR ≡ None
   pub resume : (n : ℕ) → refusal core (Resume n) ≡ None
       → ask_now_refusal (core.locks ack_res) n CR ≡ None
+  -- so a receiver takes the message, which is valid, and resumes
+  pub may_take : (n : ℕ) → refusal core (Take n) ≡ None → MayTake core.locks n
+  pub may_resume : (n : ℕ) → refusal core (Resume n) ≡ None → MayResume core.locks n
   pub processed : (n : ℕ) → refusal core (Processed n) ≡ None
       → is_none ((core.locks no_new_dev).held n) ≡ true
       → ask_now_refusal (core.locks no_new_dev) n CR ≡ None
