@@ -14,7 +14,7 @@ use Rattle.mdc_types.specs.Faults.{HasCause, Rose}
 use Rattle.mdc_types.specs.Sectors.{zero_sector}
 use Rattle.mdc_types.specs.declared.numbers.Sector.{Sector}
 use Rattle.leg_store.specs.Leg.{put, HasLength, Gives, LeftOldOrNew}
-use Rattle.leg_store.specs.Plans.{Plan, GoesByPlan, LeavesByPlan, planned_failure, one_later}
+use Rattle.leg_store.specs.Plans.{Plan, GoesByPlan, LeavesByPlan, LeftAs, planned_failure, one_later}
 use Rattle.leg_store.specs.declared.memory.Left.{Left}
 use Rattle.leg_store.specs.declared.memory.Left.TheVariants.{Old, New}
 use Rattle.cluster_model.specs.State.{Legs}
@@ -66,10 +66,10 @@ left_by_plan None p f old s v now leaves is fails = cc
 left_by_plan (Some q) p None old s v now leaves is fails = (λ e. cc, λ e. cc)
 left_by_plan (Some q) p (Some New) old s v now leaves is fails =
     let same : planned_failure q ≡ Some New = grind (arith, is, fails) in
-    (λ e. (rw same leaves), λ e. cc)
+    (λ e. subst (λ x. LeftAs x old s v now) same leaves, λ e. cc)
 left_by_plan (Some q) p (Some Old) old s v now leaves is fails =
     let same : planned_failure q ≡ Some Old = grind (arith, is, fails) in
-    (λ e. cc, λ e. (rw same leaves))
+    (λ e. cc, λ e. subst (λ x. LeftAs x old s v now) same leaves)
 
 abbrev seen : List (Option (List Sector)) → List ℕ → List ℕ → List (Option Plan) → LegsSeen
 seen cs ss fs ps = record { contents = cs; sizes = ss; faults = fs; plans = ps }

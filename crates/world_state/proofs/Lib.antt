@@ -1,2 +1,3 @@
 pub mod Points
 mod LegLaws
+pub mod Carrying

@@ -2,7 +2,7 @@
 #![tactic(auto)]
 
 ghost use Rattle.std.specs.Prelude.{◌≡◌, ◌<◌, [], IfOk, ℕ};
-ghost use Rattle.node_requests.specs.Requested.{writes_of, reads_of, writes_made_of, reads_made_of};
+ghost use Rattle.stub_requests.specs.Requests.{writes_of, reads_of, writes_made_of, reads_made_of};
 
 use mirror_io::NodeIo;
 use std::alloc::{AllocError, Global};
@@ -14,9 +14,9 @@ pub struct Requests {
 }
 
 impl Model for Requests {
-    ghost use Rattle.node_requests.specs.Requested.{RequestParts};
+    ghost use Rattle.stub_requests.specs.Requests.{AllRequests};
 
-    ghost Value = { RequestParts };
+    ghost Value = { AllRequests };
 
     ghost view = { λ r. record { flights = r.flights.items } };
 }
