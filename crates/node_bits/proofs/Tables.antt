@@ -22,9 +22,9 @@ pub table-set : {A B : Type 0} (f : A → B) (xs : List A) (n : ℕ) (v d : A) �
 table-set f xs n v d lt = fun_ext (λ m. moved f n m v (get_or xs m d) (get_or (set xs n v) m d) (get-set xs n m v d lt))
 
 -- a call on the entry of n, which was found there
-pub table-call : {A B : Type 0} (f : A → B) (change : B → B) (xs : List A) (n : ℕ) (v d e : A) → n < length xs
-    → f v ≡ change (f (get_or xs n e))
+pub table-call : {A B : Type 0} (f : A → B) (change : B → B) (xs : List A) (n : ℕ) (v d got : A) → n < length xs
+    → got ≡ get_or xs n got → f v ≡ change (f got)
     → (λ m. f (get_or (set xs n v) m d)) ≡ with_at (λ m. f (get_or xs m d)) n (change (f (get_or xs n d)))
-table-call f change xs n v d e lt is =
+table-call f change xs n v d got lt here is =
     table-set f xs n v d lt
-    ∙ ap (with_at (λ m. f (get_or xs m d)) n) (is ∙ ap (λ x. change (f x)) (get_or_default xs n e d lt))
+    ∙ ap (with_at (λ m. f (get_or xs m d)) n) (is ∙ ap (λ x. change (f x)) (here ∙ get_or_default xs n got d lt))
