@@ -1,3 +1,5 @@
+pub mod Found
 pub mod Points
+pub mod Setting
 mod LegLaws
 pub mod Carrying

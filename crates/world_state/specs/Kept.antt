@@ -1,6 +1,6 @@
 -- What is kept of the state without the legs, as plain data, and the machine's core that it
 -- stands for: one table for each attribute, by node.
-use Rattle.std.specs.Prelude.{◌≡◌, ℕ, not, List, [], get_or, replicate, Option, Some, None}
+use Rattle.std.specs.Prelude.{◌≡◌, ℕ, not, List, [], get_or, length, Option, Some, None}
 use Rattle.std.specs.Prelude.{Result, Ok, Err}
 use Rattle.std.specs.Option.{option_map}
 use Rattle.mdc_types.specs.Bits.{has_bit}
@@ -21,9 +21,10 @@ use Rattle.msg_rounds.specs.declared.phases.SenderPhase.TheVariants.{Idle}
 use Rattle.cluster_msgs.specs.declared.msg.Msg.{Msg}
 use Rattle.node_member.specs.Parts as members
 use Rattle.suspend_ranges.specs.Suspended.{ranges_of}
-use Rattle.node_requests.specs.Requested.{RequestParts, writes_of, reads_of}
-use Rattle.node_requests.specs.Requested.{writes_made_of, reads_made_of}
-use Rattle.node_tables.specs.Tables.{BitmapParts, bitmaps_of, CopyParts, copies_of}
+use Rattle.stub_requests.specs.Requests.{AllRequests, writes_of, reads_of}
+use Rattle.stub_requests.specs.Requests.{writes_made_of, reads_made_of}
+use Rattle.node_bits.specs.Bitmaps.{Maps, bitmaps_of}
+use Rattle.node_tables.specs.Tables.{CopyParts, copies_of}
 use Rattle.node_tables.specs.Tables.{RecoveryParts, recoveries_of, AdditionParts, adding_of}
 use Rattle.cluster_model.specs.State as machine
 use Rattle.cluster_model.specs.State.{Core}
@@ -38,7 +39,7 @@ pub record Kept : Type 0 where
   pub views : List views.Parts
   -- by node and leg
   pub heads : List (List ℕ)
-  pub requests : RequestParts
+  pub requests : AllRequests
   pub space : List Part
   pub senders : List SenderPhase
   pub offers : List (Option Offer)
@@ -48,7 +49,7 @@ pub record Kept : Type 0 where
   pub tried : List (List Attempt)
   pub members : members.Parts
   pub paths : Paths
-  pub bitmaps : BitmapParts
+  pub bitmaps : Maps
   -- by node and owner
   pub suspended : List (List (Option Range))
   pub copies : CopyParts
@@ -109,8 +110,12 @@ abbrev pub Judges : {T : Type 0} → Result T Refusal → Option Refusal → Typ
 Judges (Ok t) guard = guard ≡ None
 Judges (Err r) guard = guard ≡ Some r
 
--- the tables' sizes are the array's
+-- there are sixteen nodes, and the tables' sizes are the array's
 pub record IsWhole (k : Kept) : Type 0 where
+  pub views : length k.views ≡ 16
+  pub senders : length k.senders ≡ 16
+  pub receivers : length k.receivers ≡ 16
+  pub suspended : length k.suspended ≡ 16
   pub bitmaps : k.bitmaps.sizes ≡ k.identity.geometry
   pub copies : k.copies.sizes ≡ k.identity.geometry
   pub recoveries : k.recoveries.sizes ≡ k.identity.geometry

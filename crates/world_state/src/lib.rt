@@ -3,11 +3,15 @@
 #![tactic(auto)]
 
 mod attempt;
+mod changes;
+mod checks;
 mod legs;
 mod offer;
+mod setters;
 mod state;
 
 pub use attempt::Attempt;
+pub use checks::check;
 pub use legs::{receive, send};
 pub use offer::Offer;
 pub use state::CoreState;

@@ -9,8 +9,9 @@ use md_superblock::Identity;
 use mdc_types::NodeState;
 use msg_rounds::{Receiver, Sender};
 use node_member::Record;
-use node_requests::Requests;
-use node_tables::{Additions, Bitmaps, Copies, Recoveries};
+use stub_requests::Requests;
+use node_bits::Bitmaps;
+use node_tables::{Additions, Copies, Recoveries};
 use std::marker::Model;
 use suspend_ranges::SuspendList;
 
