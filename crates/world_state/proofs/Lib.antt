@@ -1,4 +1,3 @@
-pub mod Headers
-pub mod LegLaws
-pub mod NodeLaws
-pub mod Openings
+pub mod Points
+mod LegLaws
+pub mod Carrying
