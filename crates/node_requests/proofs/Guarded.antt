@@ -1,18 +1,19 @@
 -- The guard holds the live writes after each change.
-use Rattle.std.proofs.Common.{◌≡◌, ◌≢◌, ◌⊎◌, inl, inr, ℕ, zero, suc, ◌+◌, ◌<◌, ◌≤◌, ◌==◌, ◌||◌, Bool, true, false, List, [], ◌∷◌, ◌++◌, length, set, Option, Some, None, refl, ap, sym, ◌∙◌, subst, arith, if◌then◌else◌}
-use Rattle.std.specs.Prelude.{get_or, replicate}
+use Rattle.std.proofs.Common.{◌≡◌, ◌≢◌, ◌⊎◌, inl, inr, ℕ, zero, suc, ◌+◌, ◌<◌, ◌≤◌, ◌==◌, true, false, List, [], ◌∷◌, ◌++◌, length, set, Option, Some, None, refl, ap, sym, ◌∙◌, subst, arith, if◌then◌else◌}
+use Rattle.std.specs.Prelude.{get_or, replicate, Result, Ok, Err, MatchResult, OnOk}
+use Rattle.std.specs.Result.{is_err}
+use Rattle.fs_guard.specs.declared.InFlight.{InFlight}
 use Rattle.std.proofs.Math.ListN.{length-set}
 use Rattle.std.proofs.Math.Path.{fun_ext}
 use Rattle.std.proofs.lemmas.Bool.Decides.{nat_tests}
-use Rattle.std.proofs.lemmas.List.{get_or_past, length-replicate}
+use Rattle.std.proofs.lemmas.List.{get_or_past, get_or_default, length-replicate}
 use Rattle.dlm_modes.specs.First.{first_such}
 use Rattle.dlm_modes.proofs.FirstLaws.{first_such_same}
-use Rattle.dlm_modes.specs.Points.{with_at}
 use Rattle.mdc_types.specs.declared.numbers.Sector.{Sector}
 use Rattle.mirror_io.specs.declared.live.LiveWrite.{LiveWrite}
 use Rattle.mirror_io.specs.Flight.{Flight, no_flight, write_in, without_write, start_in, done_in, new_write}
 use Rattle.fs_guard.specs.declared.Writer.{Writer}
-use Rattle.fs_guard.specs.Writers.{writer, holder, without, without_node, unless_node, AreApart}
+use Rattle.fs_guard.specs.Writers.{writer, holder, without, without_node, AreApart}
 use Rattle.fs_guard.proofs.Holders.{holder-begin, holder-end, holder-die, apart-begin, apart-end, apart-die}
 use Rattle.cluster_model.specs.Writes.{any_of_sector}
 use Rattle.node_requests.specs.Requests.{flight_of, AreWrites, IsGuarded, is_node}
@@ -52,15 +53,6 @@ below_at flights guard s m i is = elim (below_or_not m 16) [
   | inl lt ↦ lt
   | inr le ↦ absurd (grind (arith, nat_tests, is, i.held m s, past flights s m (omega (arith, i.sixteen))))
 ]
-
--- and nobody holds a sector of which none of them has a write
-nobody_at : (flights : List Flight) (guard : List Writer) (s : ℕ) (o : Option ℕ) → holder s guard ≡ o → IsGuarded flights guard
-    → ((m : ℕ) → m < 16 → any_of_sector s (flight_of flights m).writes ≡ false) → o ≡ None
-nobody_at flights guard s None is i none = refl
-nobody_at flights guard s (Some m) is i none = grind (arith, nat_tests, is, i.held m s, none m (below_at flights guard s m i is))
-
-pub nobody : (flights : List Flight) (guard : List Writer) (s : ℕ) → IsGuarded flights guard → ((m : ℕ) → m < 16 → any_of_sector s (flight_of flights m).writes ≡ false) → holder s guard ≡ None
-nobody flights guard s i none = nobody_at flights guard s (holder s guard) refl i none
 
 is_first : (j k n : ℕ) → k ≤ j → j < k + n → first_such (λ m. is_node m (Some j)) k n ≡ Some j
 unfolding first_such
@@ -172,3 +164,42 @@ guarded_new flights is = rw is record {
 
 pub none_new : {A : Type 0} (part : Flight → A) (flights : List Flight) → flights ≡ replicate 16 no_flight → parts part flights ≡ (λ n. part no_flight)
 none_new part flights is = fun_ext (λ n. rw (is, same_at 16 n) refl)
+
+-- The same in the words of calls: a flight that was found, and what it became.
+
+found_at : (flights : List Flight) (guard : List Writer) (n : ℕ) (got : Flight) → n < 16 → IsGuarded flights guard → got ≡ get_or flights n got → got ≡ flight_of flights n
+found_at flights guard n got lt i is = is ∙ get_or_default flights n got no_flight (omega (arith, i.sixteen))
+
+pub begun_kept : (flights : List Flight) (guard now : List Writer) (n s : ℕ) (v : Sector) (got new : Flight) → n < 16 → IsGuarded flights guard → holder s guard ≡ None → length (flight_of flights n).writes < 16
+    → got ≡ get_or flights n got → now ≡ guard ++ writer s n ∷ [] → new ≡ record got { writes = got.writes ++ new_write got.writes_made s v ∷ []; writes_made = got.writes_made + 1 } → IsGuarded (set flights n new) now
+begun_kept flights guard now n s v got new lt i free fewer is writers asked =
+    let here = found_at flights guard n got lt i is in
+    rw (writers, asked) (guarded_begin flights guard n s v got lt i free here (subst (λ (f : Flight). length f.writes < 16) (sym here) fewer))
+
+pub started_kept : (flights : List Flight) (guard : List Writer) (n k : ℕ) (got new : Flight) → n < 16 → IsGuarded flights guard → got ≡ get_or flights n got
+    → new ≡ record got { writes = start_in k got.writes } → IsGuarded (set flights n new) guard
+started_kept flights guard n k got new lt i is e =
+    let here = found_at flights guard n got lt i is in
+    rw e (guarded_same flights guard n _ lt i (are_started got k (subst AreWrites (sym here) (i.writes n))) (λ s. any-start s k got.writes ∙ ap (λ (f : Flight). any_of_sector s f.writes) here))
+
+pub done_kept : (flights : List Flight) (guard : List Writer) (n k l : ℕ) (got new : Flight) → n < 16 → IsGuarded flights guard → got ≡ get_or flights n got
+    → new ≡ record got { writes = done_in k l got.writes } → IsGuarded (set flights n new) guard
+done_kept flights guard n k l got new lt i is e =
+    let here = found_at flights guard n got lt i is in
+    rw e (guarded_same flights guard n _ lt i (are_done got k l (subst AreWrites (sym here) (i.writes n))) (λ s. any-done s k l got.writes ∙ ap (λ (f : Flight). any_of_sector s f.writes) here))
+
+pub ended_kept : (flights : List Flight) (guard now : List Writer) (n k : ℕ) (w : LiveWrite) (got new : Flight) → n < 16 → IsGuarded flights guard → got ≡ get_or flights n got
+    → write_in k got.writes ≡ Some w → now ≡ without w.sector n guard → new ≡ record got { writes = without_write k got.writes } → IsGuarded (set flights n new) now
+ended_kept flights guard now n k w got new lt i is found writers e = rw (writers, e) (guarded_end flights guard n k w got lt i (found_at flights guard n got lt i is) found)
+
+pub died_kept : (flights : List Flight) (guard now : List Writer) (n : ℕ) (new : Flight) → n < 16 → IsGuarded flights guard → new.writes ≡ [] → now ≡ without_node n guard → IsGuarded (set flights n new) now
+died_kept flights guard now n new lt i none writers = rw writers (guarded_die flights guard n new lt i none)
+
+-- a write of a sector that nobody holds begins
+pub no_error : {A : Type 0} (r : Result A InFlight) (o : Option ℕ) → o ≡ None → MatchResult r (λ x. o ≡ None) (λ e. o ≡ Some e.0) → is_err r ≡ true → ⊥
+no_error (Ok x) o free told err = cc
+no_error (Err e) o free told err = cc
+
+pub on_ok : {A E : Type 0} (r : Result A E) (P : Type 0) → is_err r ≡ false → OnOk r P → P
+on_ok (Ok x) P err told = told
+on_ok (Err e) P err told = cc

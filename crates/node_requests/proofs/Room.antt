@@ -1,5 +1,5 @@
 -- How many writers the guard has: as many at most as the nodes have writes.
-use Rattle.std.proofs.Common.{◌≡◌, ◌≢◌, ◌⊎◌, inl, inr, ◌∙◌, ℕ, zero, suc, ◌+◌, ◌*◌, ◌<◌, ◌≤◌, ◌==◌, Bool, true, false, List, [], ◌∷◌, length, Option, Some, None, refl, arith, if◌then◌else◌}
+use Rattle.std.proofs.Common.{◌≡◌, ◌≢◌, ◌⊎◌, inl, inr, ◌∙◌, ℕ, zero, suc, ◌+◌, ◌*◌, ◌<◌, ◌≤◌, ◌==◌, true, List, [], ◌∷◌, length, Some, None, refl, arith, if◌then◌else◌}
 use Rattle.std.specs.Prelude.{nat_lt}
 use Rattle.std.proofs.lemmas.Bool.Decides.{nat_tests}
 use Rattle.mirror_io.specs.declared.live.LiveWrite.{LiveWrite}
@@ -63,11 +63,11 @@ pigeons n [] ws apart of = omega arith
 pigeons n (w ∷ guard) ws apart of =
     elim (same_or_not w.node n) [
       | inl same ↦
-        let mine : any_of_sector w.sector ws ≡ true = of w.sector (grind (arith, nat_tests, same)) in
-        let rest : AreOf n guard (without_sector w.sector ws) = λ s held. rest_of n w guard ws apart.0 of s held in
-        grind (arith, nat_tests, same, one_fewer w.sector ws mine, pigeons n guard (without_sector w.sector ws) apart.1 rest)
+          let mine : any_of_sector w.sector ws ≡ true = of w.sector (grind (arith, nat_tests, same)) in
+          let rest : AreOf n guard (without_sector w.sector ws) = λ s held. rest_of n w guard ws apart.0 of s held in
+          grind (arith, nat_tests, same, one_fewer w.sector ws mine, pigeons n guard (without_sector w.sector ws) apart.1 rest)
       | inr other ↦
-        grind (arith, nat_tests, other, pigeons n guard ws apart.1 (λ s held. of s (tail_of n w guard apart.0 s held)))
+          grind (arith, nat_tests, other, pigeons n guard ws apart.1 (λ s held. of s (tail_of n w guard apart.0 s held)))
     ]
 
 below_next : (k : ℕ) (ws : List Writer) → count_below (k + 1) ws ≡ count_below k ws + count_of k ws

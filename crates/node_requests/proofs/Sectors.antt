@@ -1,7 +1,7 @@
 -- Which sectors a node's writes are of, after a change of them.
-use Rattle.std.proofs.Common.{◌≡◌, ◌≢◌, ℕ, suc, ◌+◌, ◌<◌, ◌≤◌, ◌==◌, ◌||◌, Bool, true, false, List, [], ◌∷◌, ◌++◌, length, Option, Some, None, refl, ap, ◌∙◌, arith, length-append, if◌then◌else◌}
+use Rattle.std.proofs.Common.{◌≡◌, ◌≢◌, ℕ, suc, ◌+◌, ◌<◌, ◌≤◌, ◌==◌, ◌||◌, Bool, true, false, List, [], ◌∷◌, ◌++◌, length, Some, refl, ap, arith, length-append, if◌then◌else◌}
 use Rattle.std.proofs.lemmas.Bool.Decides.{nat_tests}
-use Rattle.mirror_io.specs.Flight.{Flight, write_in, without_write, start_in, done_in, started, done_on, new_write, WritesRise}
+use Rattle.mirror_io.specs.Flight.{Flight, write_in, without_write, start_in, done_in, new_write, WritesRise}
 use Rattle.mirror_io.specs.declared.live.LiveWrite.{LiveWrite}
 use Rattle.mirror_io.proofs.Order.{WritesRise-push, WritesRise-without}
 use Rattle.mdc_types.specs.declared.numbers.Sector.{Sector}

@@ -1,5 +1,5 @@
 -- The requests in flight of all nodes, and the guard of the file system over their writes.
-use Rattle.std.specs.Prelude.{◌≡◌, ◌≤◌, ℕ, ◌==◌, Bool, true, false, length, get_or}
+use Rattle.std.specs.Prelude.{◌≡◌, ◌≤◌, ℕ, ◌==◌, Bool, false, length, get_or}
 use Rattle.std.specs.Prelude.{List, [], ◌∷◌, Option, Some, None}
 use Rattle.mirror_io.specs.Flight.{Flight, no_flight, WritesRise}
 use Rattle.mirror_io.specs.declared.live.LiveWrite.{LiveWrite}

@@ -1,4 +1,4 @@
-ghost use Rattle.std.specs.Prelude.{◌≡◌, ◌<◌, ◌+◌, ◌-◌, ◌^◌, ℕ, [], ◌∷◌, ◌++◌, length, nat_lt, false, replicate, IsSome, IfOk};
+ghost use Rattle.std.specs.Prelude.{◌≡◌, ◌<◌, ◌+◌, ◌-◌, ◌^◌, [], ◌∷◌, ◌++◌, length, nat_lt, replicate, None, IsSome, IfOk};
 ghost use Rattle.std.specs.Option.{option_copied};
 ghost use Rattle.dlm_modes.specs.First.{first_such};
 ghost use Rattle.dlm_modes.specs.Points.{with_at};
@@ -59,6 +59,22 @@ impl Requests {
         ensures { result ≡ nat_lt (length (reads_of self.now n)) 16 }
     {
         self.flights[n as usize].can_read()
+    }
+
+    /// The writes asked of the node so far, which is the number that the next one gets.
+    pub fn writes_made(&self, n: NodeId) -> u32
+        requires { n < 16 }
+        ensures { result ≡ writes_made_of self.now n }
+    {
+        self.flights[n as usize].writes_made()
+    }
+
+    /// The reads asked of the node so far, which is the number that the next one gets.
+    pub fn reads_made(&self, n: NodeId) -> u32
+        requires { n < 16 }
+        ensures { result ≡ reads_made_of self.now n }
+    {
+        self.flights[n as usize].reads_made()
     }
 
     /// The node that has a live write of the sector, if one does.
@@ -122,7 +138,7 @@ impl Requests {
     pub fn ask_write(&mut self, n: NodeId, s: SectorNo, v: &Sector) -> WriteNo
         requires node { n < 16 }
         requires room { length (writes_of self.old n) < 16 }
-        requires free { (m : ℕ) → m < 16 → any_of_sector s (writes_of self.old m) ≡ false }
+        requires free { first_such (λ m. any_of_sector s (writes_of self.old m)) 0 16 ≡ None }
         requires numbers { writes_made_of self.old n < 2 ^ 32 - 1 }
         ensures number { result ≡ writes_made_of self.old n }
         ensures writes { writes_of self.new ≡ with_at (writes_of self.old) n
@@ -243,8 +259,77 @@ fn no_flights(alloc: Global) -> Result<Vec<NodeIo>, AllocError>
     ensures { IfOk result (λ v. v.items ≡ replicate 16 no_flight) }
 {
     let mut flights = Vec::with_capacity(alloc, 16)?;
-    for _n in 0..16 {
+    for _n in 0..16_u8 {
         flights.push(NodeIo::new(alloc)?)?;
     }
     Ok(flights)
+}
+
+#[cfg(test)]
+mod tests {
+    use super::*;
+    use std::test::Fail;
+
+    const VALUE: Sector = Sector { bytes: [7; 512] };
+
+    #[derive(Clone, Copy)]
+    enum Call {
+        Write(NodeId, SectorNo),
+        Read(NodeId, SectorNo),
+        OutDone(NodeId, WriteNo),
+        EndWrite(NodeId, WriteNo),
+        EndRead(NodeId, ReadNo),
+        Die(NodeId),
+    }
+
+    #[test]
+    fn calls(rt: HostRuntime) -> Result<(), Fail> {
+        let mut requests = Requests::new(rt.alloc())?;
+        // A call, and then the writers of sectors 5 and 6 and node 1's first write.
+        for (call, five, six, first) in [
+            (Call::Write(1, 5), Some(1), None, Some(0)),
+            (Call::Write(0, 6), Some(1), Some(0), Some(0)),
+            (Call::OutDone(1, 0), Some(1), Some(0), Some(0)),
+            (Call::Read(1, 6), Some(1), Some(0), Some(0)),
+            (Call::EndRead(1, 0), Some(1), Some(0), Some(0)),
+            (Call::EndWrite(1, 0), None, Some(0), None),
+            (Call::Write(15, 5), Some(15), Some(0), None),
+            (Call::Die(0), Some(15), None, None),
+            (Call::Write(1, 6), Some(15), Some(1), Some(1)),
+        ] {
+            match call {
+                Call::Write(n, s) => {
+                    assert!(rt; n < 16 && requests.can_write(n) && requests.writes_made(n) < 9);
+                    let None = requests.writer_of(s) else {
+                        panic!(rt; "the sector has a writer");
+                    };
+                    requests.ask_write(n, s, &VALUE);
+                }
+                Call::Read(n, s) => {
+                    assert!(rt; n < 16 && requests.can_read(n) && requests.reads_made(n) < 9);
+                    requests.ask_read(n, s, 1);
+                }
+                Call::OutDone(n, k) => {
+                    assert!(rt; n < 16 && requests.write(n, k).is_some());
+                    requests.out_done(n, k, 2);
+                }
+                Call::EndWrite(n, k) => {
+                    assert!(rt; n < 16 && requests.write(n, k).is_some());
+                    requests.end_write(n, k);
+                }
+                Call::EndRead(n, k) => {
+                    assert!(rt; n < 16 && requests.read(n, k).is_some());
+                    requests.end_read(n, k);
+                }
+                Call::Die(n) => {
+                    assert!(rt; n < 16);
+                    requests.die(n);
+                }
+            }
+            assert_eq!(rt; requests.writer_of(5), five);
+            assert_eq!(rt; requests.writer_of(6), six);
+            assert_eq!(rt; requests.write_from(1, 0), first);
+        }
+        Ok(())
+    }
 }
