@@ -12,6 +12,8 @@ mod node_copy;
 mod node_rec;
 mod places;
 mod recoveries;
+#[cfg(test)]
+mod tests;
 
 pub use additions::Additions;
 pub use copies::Copies;
