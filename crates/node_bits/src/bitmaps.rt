@@ -291,3 +291,27 @@ impl Bitmaps {
         self.maps[n as usize].open_member(legs, warm);
     }
 }
+
+#[cfg(test)]
+mod tests {
+    use super::*;
+    use std::test::Fail;
+
+    #[test]
+    fn nodes_apart(rt: HostRuntime) -> Result<(), Fail> {
+        let g = Geometry::new(2, 40, 4)?;
+        assert!(rt; 3 < g.chunks() && 0 < g.pages());
+        let mut bitmaps = Bitmaps::new(rt.alloc(), &g)?;
+        bitmaps.open_member(1, true);
+        bitmaps.open_member(2, false);
+        bitmaps.set(2, 3);
+        bitmaps.page_out(2, 0, 1);
+        for (n, first, old) in [(0, None, Some(0)), (1, Some(0), None), (2, Some(3), Some(0))] {
+            assert_eq!(rt; bitmaps.first_set(n), first, "set of node {n}");
+            assert_eq!(rt; bitmaps.old_target(n, 0b11), old, "pages of node {n}");
+        }
+        assert_eq!(rt; bitmaps.unmarked_target(2, 0b11, 3), Some(0));
+        assert!(rt; bitmaps.page(2, &[0; 16], 0).bytes[256] == 0x08);
+        Ok(())
+    }
+}
