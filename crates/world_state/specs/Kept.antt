@@ -21,11 +21,12 @@ use Rattle.msg_rounds.specs.declared.phases.SenderPhase.TheVariants.{Idle}
 use Rattle.cluster_msgs.specs.declared.msg.Msg.{Msg}
 use Rattle.node_member.specs.Parts as members
 use Rattle.suspend_ranges.specs.Suspended.{ranges_of}
-use Rattle.stub_requests.specs.Requests.{AllRequests, writes_of, reads_of}
-use Rattle.stub_requests.specs.Requests.{writes_made_of, reads_made_of}
+use Rattle.node_requests.specs.Requests.{AllRequests, writes_of, reads_of}
+use Rattle.node_requests.specs.Requests.{writes_made_of, reads_made_of}
 use Rattle.node_bits.specs.Bitmaps.{Maps, bitmaps_of}
-use Rattle.node_tables.specs.Tables.{CopyParts, copies_of}
-use Rattle.node_tables.specs.Tables.{RecoveryParts, recoveries_of, AdditionParts, adding_of}
+use Rattle.node_copies.specs.Copies.{Copyings, copies_of}
+use Rattle.node_copies.specs.Recoveries.{Progresses, recoveries_of}
+use Rattle.node_copies.specs.Additions.{Addings, adding_of}
 use Rattle.cluster_model.specs.State as machine
 use Rattle.cluster_model.specs.State.{Core}
 use Rattle.world_state.specs.declared.attempt.Attempt.{Attempt}
@@ -52,9 +53,9 @@ pub record Kept : Type 0 where
   pub bitmaps : Maps
   -- by node and owner
   pub suspended : List (List (Option Range))
-  pub copies : CopyParts
-  pub recoveries : RecoveryParts
-  pub additions : AdditionParts
+  pub copies : Copyings
+  pub recoveries : Progresses
+  pub additions : Addings
 
 -- the view of a node that isn't there
 abbrev pub no_parts : views.Parts

@@ -9,9 +9,9 @@ use md_superblock::Identity;
 use mdc_types::NodeState;
 use msg_rounds::{Receiver, Sender};
 use node_member::Record;
-use stub_requests::Requests;
+use node_requests::Requests;
 use node_bits::Bitmaps;
-use node_tables::{Additions, Copies, Recoveries};
+use node_copies::{Additions, Copies, Recoveries};
 use std::marker::Model;
 use suspend_ranges::SuspendList;
 
