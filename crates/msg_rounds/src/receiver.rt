@@ -95,6 +95,20 @@ impl Receiver {
         }
     }
 
+    /// The sender of the message that was taken last, 0 where none was.
+    pub fn sender(&self) -> NodeId
+        ensures { result ≡ self.now.from }
+    {
+        self.from
+    }
+
+    /// Whether that sender is known to have died before its round was over.
+    pub fn is_gone(&self) -> bool
+        ensures { result ≡ self.now.gone }
+    {
+        self.gone
+    }
+
     fn not_phase(&self) -> RoundError
         ensures { result ≡ RoundError.NotPhase (receiver_word self.now.phase) }
     {

@@ -144,3 +144,10 @@ pub record Ready (core : Core) : Type 0 where
   pub rounded : Rounded core
   pub others : OtherLocks core
   pub unblocked : Unblocked core
+
+-- the tables' sizes are the array's
+pub record IsWhole (k : Kept) : Type 0 where
+  pub bitmaps : k.bitmaps.sizes ≡ k.identity.geometry
+  pub copies : k.copies.sizes ≡ k.identity.geometry
+  pub recoveries : k.recoveries.sizes ≡ k.identity.geometry
+  pub additions : k.additions.sizes ≡ k.identity.geometry

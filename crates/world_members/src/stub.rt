@@ -1,15 +1,13 @@
-ghost use Rattle.std.specs.Prelude.{◌≡◌, ◌<◌, [], ◌∷◌, None, Some, not};
-ghost use Rattle.dlm_modes.specs.Guards.{unless, first_of};
+ghost use Rattle.std.specs.Prelude.{◌≡◌, ◌<◌, []};
 ghost use Rattle.dlm_modes.specs.Points.{with_at};
-ghost use Rattle.leg_failure.specs.Views.{view_of, is_target};
+ghost use Rattle.leg_failure.specs.Views.{view_of};
+ghost use Rattle.mdc_types.specs.Bits.{has_bit};
 ghost use Rattle.mirror_io.specs.Flight.{write_from, read_from, write_within};
 ghost use Rattle.node_bitmaps.specs.Bitmap.{first_set, old_target};
 ghost use Rattle.disk_addition.specs.declared.addition.Addition.{Addition};
-ghost use Rattle.cluster_model.specs.State.{Copy, sizes};
-ghost use Rattle.cluster_model.specs.Guards.{no_node, of_live, no_leg};
-ghost use Rattle.cluster_model.specs.Phases.{needs_up, copy_word};
+ghost use Rattle.cluster_model.specs.Phases.{copy_word};
 ghost use Rattle.cluster_model.specs.Changes.{node_out, with_view, sender_idle};
-ghost use Rattle.world_members.specs.Kept.{Judges, core_of, bitmaps_of, copies_of, adding_of, writes_of, reads_of, writes_made_of, reads_made_of};
+ghost use Rattle.world_members.specs.Kept.{core_of, bitmaps_of, copies_of, adding_of, writes_of, reads_of, writes_made_of, reads_made_of};
 
 use cluster_msgs::Msg;
 use disk_addition::Addition;
@@ -118,8 +116,28 @@ pub struct CoreState {
 }
 
 impl Model for CoreState {
-    ghost use Rattle.world_members.specs.Kept.{Kept};
+    ghost use Rattle.world_members.specs.Kept.{Kept, IsWhole};
     ghost Value = { Kept };
+    ghost invariant = { λ c. IsWhole (record {
+      identity = c.identity;
+      states = c.states;
+      views = c.views;
+      heads = c.heads;
+      requests = c.requests;
+      space = c.space;
+      senders = c.senders;
+      offers = c.offers;
+      receivers = c.receivers;
+      heard = c.heard;
+      tried = c.tried;
+      members = c.members;
+      paths = c.paths;
+      bitmaps = c.bitmaps;
+      suspended = c.suspended;
+      copies = c.copies;
+      recoveries = c.recoveries;
+      additions = c.additions;
+    }) };
     ghost view = { λ c. record {
       identity = c.identity;
       states = c.states;
@@ -142,64 +160,30 @@ impl Model for CoreState {
     } };
 }
 
-#[tactic(none)]
-pub fn check(holds: bool, refusal: Refusal) -> Result<(), Refusal>
-    ensures { Judges result (unless holds refusal) }
-{
-    unreachable!()
-}
+impl CoreState {
+    #[tactic(none)]
+    pub fn node_out(&mut self, n: NodeId)
+        requires { n < 16 }
+        ensures { core_of self.new ≡ node_out (core_of self.old) n }
+    {
+        unreachable!()
+    }
 
-#[tactic(none)]
-pub fn check_node(core: &CoreState, n: NodeId) -> Result<(), Refusal>
-    ensures { Judges result (no_node (core_of core.now) n) }
-{
-    unreachable!()
-}
+    #[tactic(none)]
+    pub fn sender_idle(&mut self, n: NodeId)
+        requires { n < 16 }
+        ensures { core_of self.new ≡ sender_idle (core_of self.old) n }
+    {
+        unreachable!()
+    }
 
-#[tactic(none)]
-pub fn check_live(core: &CoreState, n: NodeId) -> Result<(), Refusal>
-    ensures { Judges result (first_of (of_live (core_of core.now) n [])) }
-{
-    unreachable!()
-}
-
-#[tactic(none)]
-pub fn check_leg(core: &CoreState, l: LegId) -> Result<(), Refusal>
-    ensures { Judges result (no_leg (core_of core.now) l) }
-{
-    unreachable!()
-}
-
-#[tactic(none)]
-pub fn check_up(core: &CoreState, n: NodeId) -> Result<(), Refusal>
-    requires { n < 16 }
-    ensures { Judges result (needs_up (core_of core.now) n) }
-{
-    unreachable!()
-}
-
-#[tactic(none)]
-pub fn node_out(core: &mut CoreState, n: NodeId)
-    requires { n < 16 }
-    ensures { core_of core.new ≡ node_out (core_of core.old) n }
-{
-    unreachable!()
-}
-
-#[tactic(none)]
-pub fn sender_idle(core: &mut CoreState, n: NodeId)
-    requires { n < 16 }
-    ensures { core_of core.new ≡ sender_idle (core_of core.old) n }
-{
-    unreachable!()
-}
-
-#[tactic(none)]
-pub fn set_view(core: &mut CoreState, n: NodeId, v: &View)
-    requires { n < 16 }
-    ensures { core_of core.new ≡ with_view (core_of core.old) n (view_of v.now) }
-{
-    unreachable!()
+    #[tactic(none)]
+    pub fn set_view(&mut self, n: NodeId, v: &View)
+        requires { n < 16 }
+        ensures { core_of self.new ≡ with_view (core_of self.old) n (view_of v.now) }
+    {
+        unreachable!()
+    }
 }
 
 impl Requests {
@@ -262,6 +246,13 @@ impl Bitmaps {
     pub fn first_set(&self, n: NodeId) -> Option<ChunkNo>
         requires { n < 16 }
         ensures { result ≡ first_set self.now.sizes (bitmaps_of self.now n) }
+    {
+        unreachable!()
+    }
+    #[tactic(none)]
+    pub fn old_target(&self, n: NodeId, targets: u8) -> Option<LegId>
+        requires { n < 16 }
+        ensures { result ≡ old_target self.now.sizes (bitmaps_of self.now n) (has_bit targets) }
     {
         unreachable!()
     }

@@ -1,4 +1,4 @@
-use Rattle.world_members.proofs.stub.check_leg.Goals as goal
+use Rattle.world_members.proofs.stub.CoreState.sender_idle.Goals as goal
 
 pub unreachable-requires : goal.unreachable-requires
 unreachable-requires c = ?
