@@ -1,6 +1,6 @@
 -- What a row tells whose guards refuse nothing: no call that it makes is refused.
 use Rattle.std.proofs.Common.{◌≡◌, ◌≢◌, ◌<◌, ◌≤◌, ◌==◌, ◌&&◌, ℕ, Bool, true, false, not, List, [], ◌∷◌, Option, Some, None, refl, sym, ap, ◌∙◌, arith, if◌then◌else◌}
-use Rattle.std.specs.Prelude.{is_some, nat_lt}
+use Rattle.std.specs.Prelude.{is_some, nat_lt, IfSome}
 use Rattle.std.proofs.lemmas.Bool.Decides.{nat_tests}
 use Rattle.dlm_modes.specs.Guards.{unless, or_then, first_of}
 use Rattle.dlm_modes.specs.Points.{with_at}
@@ -19,11 +19,16 @@ use Rattle.msg_rounds.specs.declared.phases.SenderPhase.{SenderPhase}
 use Rattle.msg_rounds.specs.declared.phases.SenderPhase.TheVariants as senders
 use Rattle.msg_rounds.specs.declared.phases.ReceiverPhase.{ReceiverPhase}
 use Rattle.msg_rounds.specs.declared.phases.ReceiverPhase.TheVariants as receivers
+use Rattle.cluster_msgs.specs.Messages.{IsInRange}
+use Rattle.cluster_msgs.specs.Reading.{message_in}
+use Rattle.cluster_msgs.specs.declared.msg.Msg.{Msg}
+use Rattle.cluster_msgs.proofs.Said.{says_what_is_spelled}
 use Rattle.cluster_model.specs.State.{Core}
 use Rattle.cluster_model.specs.Guards.{no_node, not_fenced, no_leg, is_out}
 use Rattle.cluster_model.specs.Phases.{is_up}
 use Rattle.cluster_model.specs.Table.{refusal}
 use Rattle.laws_locks.specs.Rounded.{Rounded}
+use Rattle.laws_sound.specs.Laws.{MessagesRead}
 use Rattle.laws_locks.proofs.Guarded.{first_none, unless_none, tested, a_node, living}
 use Rattle.laws_locks.proofs.Told.{not_live}
 
@@ -178,6 +183,35 @@ processed_at core n r e =
       here = not_false _ b.0;
       processes = both (is_taken (core.receiver n).phase) (not (core.receiver n).gone) _ _ a.0 b.0;
     }
+
+-- the sender of a message that was taken, and isn't gone, is a node
+published_below : (s : NodeState) (sender : SenderPhase) → (s ≡ states.Out → sender ≡ senders.Idle) → s ≡ states.Out
+    → has_published sender ≡ true → ⊥
+published_below s sender idle out e = grind (arith, idle out)
+
+pub from_below : (core : Core) (n : ℕ) → Rounded core → ProcessedAt core n → (core.receiver n).from < 16
+from_below core n r p = by_test (nat_lt (core.receiver n).from 16) refl
+  where
+    lt : (m : ℕ) → nat_lt m 16 ≡ true → m < 16
+    lt m e = grind (arith, nat_tests)
+
+    le : (m : ℕ) → nat_lt m 16 ≡ false → 16 ≤ m
+    le m e = grind (arith, nat_tests)
+
+    by_test : (b : Bool) → nat_lt (core.receiver n).from 16 ≡ b → (core.receiver n).from < 16
+    by_test true e = lt _ e
+    by_test false e = absurd (published_below (core.state (core.receiver n).from) (core.sender (core.receiver n).from)
+        (r.phased.out (core.receiver n).from) (r.numbered.beyond (core.receiver n).from (le _ e))
+        (r.phased.calls n p.taken p.here))
+
+-- what was heard is a message
+in_range : (bytes : List ℕ) (x : Option Msg) → x ≡ message_in bytes → IfSome x (λ m. IsInRange m)
+in_range bytes None e = tt
+in_range bytes (Some m) e = ((says_what_is_spelled bytes m).0 (sym e)).message.ranges
+
+pub heard_in_range : (core : Core) (n : ℕ) → MessagesRead core → (core.receiver n).phase ≡ receivers.Taken
+    → IfSome (core.heard n) (λ m. IsInRange m)
+heard_in_range core n m e = in_range (core.locks message_res).block.bytes (core.heard n) (m.heard n (ap is_idle e))
 
 pub record ResumeAt (core : Core) (n : ℕ) : Type 0 where
   pub node : n < 16

@@ -1,5 +1,5 @@
 -- The single changes of which the rows of members and receivers are made.
-use Rattle.std.specs.Prelude.{ℕ, ◌==◌, ◌&&◌, if◌then◌else◌, true, [], Option, None}
+use Rattle.std.specs.Prelude.{ℕ, ◌==◌, ◌&&◌, if◌then◌else◌, Bool, true, [], Option, None}
 use Rattle.dlm_modes.specs.Points.{with_at}
 use Rattle.dlm_modes.specs.declared.mode.Mode.TheVariants.{CR, PW}
 use Rattle.mdc_types.specs.declared.numbers.Range.{Range}
@@ -128,6 +128,9 @@ round_dropped core n =
 
 abbrev pub view_known : Core → ℕ → Core
 view_known core n = record core { view = with_at core.view n (acknowledged (core.view n)) }
+
+abbrev pub view_resumed_if : Core → ℕ → Bool → Core
+view_resumed_if core n b = if b then view_known core n else core
 
 -- no device is on its way at the node
 abbrev pub addition_over : Core → ℕ → Core

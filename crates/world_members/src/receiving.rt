@@ -7,8 +7,9 @@ ghost use Rattle.msg_rounds.specs.Phases.{is_idle};
 ghost use Rattle.msg_rounds.specs.Refusals.{is_taken, is_pr, may_resume};
 ghost use Rattle.cluster_model.specs.After.{after};
 ghost use Rattle.cluster_model.specs.Outcomes.{outcome_of};
-ghost use Rattle.cluster_model.specs.Receiving.{kind_in, told_state, view_resumed};
+ghost use Rattle.cluster_model.specs.Receiving.{kind_in, told_state};
 ghost use Rattle.cluster_model.specs.Table.{refusal};
+ghost use Rattle.world_members.specs.Changes.{view_resumed_if};
 ghost use Rattle.world_members.specs.Kept.{Judges, Ready, core_of};
 
 use crate::changes;
@@ -106,6 +107,7 @@ fn tells_state(heard: &Option<Msg>) -> bool
     }
 }
 
+// A whole round of the superblock's is one that the node knows as whole.
 fn knows_whole(core: &CoreState, n: NodeId) -> bool
     requires { n < 16 }
     ensures { result ≡ (not ((core_of core.now).receiver n).gone
@@ -114,12 +116,12 @@ fn knows_whole(core: &CoreState, n: NodeId) -> bool
     !core.receivers[n as usize].is_gone() && tells_state(&core.heard[n as usize])
 }
 
-// A whole round of the superblock's is one that the node knows as whole.
-fn resume_view(core: &mut CoreState, n: NodeId)
+// The node knows the round as whole, where it does.
+fn resume_view(core: &mut CoreState, n: NodeId, knows: bool)
     requires { n < 16 }
-    ensures { core_of core.new ≡ view_resumed (core_of core.old) n }
+    ensures { core_of core.new ≡ view_resumed_if (core_of core.old) n knows }
 {
-    if knows_whole(core, n) {
+    if knows {
         changes::know_view(core, n);
     }
 }
@@ -131,9 +133,10 @@ pub fn resume(core: &mut CoreState, n: NodeId) -> Outcome
     ensures outcome { result ≡ outcome_of (core_of core.old) (Event.Resume n) }
     ensures after { core_of core.new ≡ after (core_of core.old) (Event.Resume n) result }
 {
-    resume_view(core, n);
+    let knows = knows_whole(core, n);
     let outcome = changes::end_round(core, n);
     changes::set_heard(core, n, None);
+    resume_view(core, n, knows);
     outcome
 }
 
