@@ -11,10 +11,10 @@ use Rattle.msg_rounds.specs.declared.phases.SenderPhase.{SenderPhase}
 use Rattle.msg_rounds.specs.declared.phases.SenderPhase.TheVariants.{Idle}
 use Rattle.suspend_ranges.specs.Suspended.{ranges_of}
 use Rattle.cluster_model.specs.State as machine
-use Rattle.world_members.specs.Kept.{tried_of}
+use Rattle.world_state.specs.Kept.{tried_of}
 use Rattle.world_members.specs.Tables.{senders_of, receivers_of, heads_of, all_tries, suspended_of}
-use Rattle.world_members.specs.declared.stub.Attempt.{Attempt}
-use Rattle.world_members.specs.declared.stub.Attempt.TheVariants.{Untried}
+use Rattle.world_state.specs.declared.attempt.Attempt.{Attempt}
+use Rattle.world_state.specs.declared.attempt.Attempt.TheVariants.{Untried}
 
 -- what is read of a list with one element replaced
 pub get-set : {A : Type 0} (xs : List A) (n m : ℕ) (v d : A) → n < length xs
@@ -25,54 +25,9 @@ get-set (x ∷ xs) zero (suc m) v d lt = grind arith
 get-set (x ∷ xs) (suc n) zero v d lt = grind arith
 get-set (x ∷ xs) (suc n) (suc m) v d lt = grind (arith, get-set xs n m v d (omega (arith, lt)))
 
-pub senders-set : (xs : List SenderPhase) (n : ℕ) (v : SenderPhase) → n < length xs
-    → senders_of (set xs n v) ≡ with_at (senders_of xs) n v
-senders-set xs n v lt = fun_ext (λ m. get-set xs n m v Idle lt)
-
 pub receivers-set : (xs : List Receiving) (n : ℕ) (v : Receiving) → n < length xs
     → receivers_of (set xs n v) ≡ with_at (receivers_of xs) n v
 receivers-set xs n v lt = fun_ext (λ m. get-set xs n m v new_receiving lt)
-
--- a receiver that was changed as it stood
-pub receiver_turned : (xs : List Receiving) (n : ℕ) (d new : Receiving) (f : Receiving → Receiving) → n < length xs
-    → new ≡ f (get_or xs n d) → receivers_of (set xs n new) ≡ with_at (receivers_of xs) n (f (receivers_of xs n))
-receiver_turned xs n d new f lt e =
-    receivers-set xs n new lt ∙ ap (with_at (receivers_of xs) n) (e ∙ ap f (get_or_default xs n d new_receiving lt))
-
-get_or-same : {A : Type 0} (count l : ℕ) (x : A) → get_or (replicate count x) l x ≡ x
-get_or-same zero l x = refl
-get_or-same (suc count) zero x = refl
-get_or-same (suc count) (suc l) x = get_or-same count l x
-
--- heads
-
-home_at : (m n l : ℕ) (xs old got : List ℕ) → got ≡ (if m == n then xs else old) → get_or xs l 0 ≡ 0
-    → get_or got l 0 ≡ (if m == n then 0 else get_or old l 0)
-home_at m n l xs old got e z = grind (arith, nat_tests)
-
-pub heads-home : (heads : List (List ℕ)) (n : ℕ) → n < length heads
-    → heads_of (set heads n (replicate 8 0)) ≡ (λ m l. if m == n then 0 else heads_of heads m l)
-heads-home heads n lt = fun_ext (λ m. fun_ext (λ l.
-    home_at m n l (replicate 8 0) (get_or heads m []) _ (get-set heads n m (replicate 8 0) [] lt) (get_or-same {A = ℕ} 8 l 0)))
-
--- tries
-
-tries_at : (m n l : ℕ) (xs old got : List Attempt) → got ≡ (if m == n then xs else old) → get_or xs l Untried ≡ Untried
-    → tried_of (get_or got l Untried) ≡ (if m == n then machine.Untried else tried_of (get_or old l Untried))
-tries_at m n l xs old got e z = grind (arith, nat_tests)
-
-spread : {A : Type 0} (m n l : ℕ) (f g : ℕ → A) → (if m == n then f l else g l) ≡ (if m == n then f else g) l
-spread m n l f g = by_test (m == n)
-  where
-    by_test : (b : Bool) → (if b then f l else g l) ≡ (if b then f else g) l
-    by_test true = refl
-    by_test false = refl
-
-pub tries-over : (tried : List (List Attempt)) (n : ℕ) → n < length tried
-    → all_tries (set tried n (replicate 8 Untried)) ≡ with_at (all_tries tried) n (λ l. machine.Untried)
-tries-over tried n lt = fun_ext (λ m. fun_ext (λ l.
-    tries_at m n l (replicate 8 Untried) (get_or tried m []) _ (get-set tried n m (replicate 8 Untried) [] lt) (get_or-same {A = Attempt} 8 l Untried)
-    ∙ spread m n l (λ k. machine.Untried) (all_tries tried m)))
 
 -- suspended ranges
 
@@ -103,3 +58,56 @@ pub suspended-put : (lists : List (List (Option Range))) (n o : ℕ) (d v : List
 suspended-put lists n o d v x lt e = fun_ext (λ m. fun_ext (λ owner.
     ap (λ (f : ℕ → ℕ → Option Range). f m owner) (suspended-set lists n v lt ∙ ap (with_at (suspended_of lists) n) (e ∙ ap (λ ys. with_at (ranges_of ys) o x) (get_or_default lists n d [] lt)))
     ∙ put_at m n o owner x (suspended_of lists n) (suspended_of lists m) (λ same. ap (suspended_of lists) (sym same))))
+
+-- one after the other
+
+one_more : {A : Type 0} (r k : ℕ) (now new changed done old : A) → new ≡ (if r == k then changed else now) → (r ≡ k → changed ≡ done) → now ≡ (if nat_lt r k then done else old)
+    → new ≡ (if nat_lt r (k + 1) then done else old)
+one_more r k now new changed done old e g f = grind (arith, nat_tests)
+
+here : {A : Type 0} (k : ℕ) (now done old : A) → now ≡ (if nat_lt k k then done else old) → now ≡ old
+here k now done old e = grind (arith, nat_tests)
+
+-- an owner is dropped from one list after the other
+pub owner_dropped : (old now : List (List (Option Range))) (k o : ℕ) (d v : List (Option Range)) → k < length now
+    → ((m : ℕ) → suspended_of now m ≡ (if nat_lt m k then with_at (suspended_of old m) o None else suspended_of old m))
+    → ranges_of v ≡ with_at (ranges_of (get_or now k d)) o None
+    → (m : ℕ) → suspended_of (set now k v) m ≡ (if nat_lt m (k + 1) then with_at (suspended_of old m) o None else suspended_of old m)
+owner_dropped old now k o d v lt so e m =
+    let done : ranges_of v ≡ with_at (suspended_of old k) o None =
+    e ∙ ap (λ ys. with_at (ranges_of ys) o None) (get_or_default now k d [] lt)
+    ∙ ap (λ f. with_at f o None) (here k _ _ _ (so k)) in
+    one_more m k _ _ _ _ _ (ap (λ (f : ℕ → ℕ → Option Range). f m) (suspended-set now k v lt))
+    (λ same. done ∙ ap (λ j. with_at (suspended_of old j) o None) (sym same)) (so m)
+
+none_there : (o owner : ℕ) → (if owner == o then None else ranges_of [] owner) ≡ ranges_of [] owner
+none_there o owner = grind arith
+
+at_end : (m n o : ℕ) (now : ℕ → Option Range) (xs : List (Option Range)) → now ≡ (if nat_lt m n then with_at (ranges_of xs) o None else ranges_of xs)
+    → (n ≤ m → xs ≡ []) → (owner : ℕ) → now owner ≡ (if owner == o then None else ranges_of xs owner)
+at_end m n o now xs e none owner = ap (λ (f : ℕ → Option Range). f owner) e ∙ by_test (nat_lt m n) refl
+  where
+    le : nat_lt m n ≡ false → n ≤ m
+    le f = grind (arith, nat_tests)
+
+    by_test : (b : Bool) → nat_lt m n ≡ b → (if b then with_at (ranges_of xs) o None else ranges_of xs) owner ≡ (if owner == o then None else ranges_of xs owner)
+    by_test true t = refl
+    by_test false t = let nothing : xs ≡ [] = none (le t) in rw nothing (sym (none_there o owner))
+
+pub owner_gone : (old now : List (List (Option Range))) (n o : ℕ) → length old ≡ n
+    → ((m : ℕ) → suspended_of now m ≡ (if nat_lt m n then with_at (suspended_of old m) o None else suspended_of old m))
+    → suspended_of now ≡ (λ m owner. if owner == o then None else suspended_of old m owner)
+owner_gone old now n o all so = fun_ext (λ m. fun_ext (λ owner.
+    at_end m n o (suspended_of now m) (get_or old m []) (so m) (λ le. get_or_past old m [] (omega (arith, all, le))) owner))
+
+-- the members' ranges, one after the other
+pub range_put : (list new : ℕ → Option Range) (m : ℕ) (x : Option Range) (f : ℕ → Option Range) → new ≡ with_at list m x → x ≡ f m
+    → ((o : ℕ) → list o ≡ (if nat_lt o m then f o else None)) → (o : ℕ) → new o ≡ (if nat_lt o (m + 1) then f o else None)
+range_put list new m x f e is so o =
+    one_more o m _ _ _ _ _ (ap (λ (g : ℕ → Option Range). g o) e) (λ same. is ∙ ap f (sym same)) (so o)
+
+no_range : (o : ℕ) (x : Option Range) → None ≡ (if nat_lt o 0 then x else None)
+no_range o x = grind (arith, nat_tests)
+
+pub no_ranges : (list : ℕ → Option Range) (f : ℕ → Option Range) → list ≡ (λ o. None) → (o : ℕ) → list o ≡ (if nat_lt o 0 then f o else None)
+no_ranges list f e o = ap (λ (g : ℕ → Option Range). g o) e ∙ no_range o (f o)

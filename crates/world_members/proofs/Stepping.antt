@@ -4,7 +4,10 @@ use Rattle.std.specs.Prelude.{is_none}
 use Rattle.std.proofs.lemmas.Bool.Decides.{nat_tests}
 use Rattle.std.proofs.Math.Path.{fun_ext}
 use Rattle.dlm_modes.specs.Points.{with_at}
+use Rattle.mdc_types.specs.declared.events.Event.TheVariants.{Resume}
 use Rattle.mdc_types.specs.declared.numbers.Range.{Range}
+use Rattle.mdc_types.specs.declared.outcomes.Outcome.{Outcome}
+use Rattle.mdc_types.specs.declared.outcomes.Outcome.TheVariants.{Broken, Whole}
 use Rattle.mdc_types.specs.declared.roles.NodeState.TheVariants.{Loaded}
 use Rattle.dlm_space.specs.Locks.{Lock, let_go}
 use Rattle.dlm_modes.specs.declared.mode.Mode.{Mode}
@@ -15,12 +18,13 @@ use Rattle.cluster_msgs.specs.declared.msg.Body.{Body}
 use Rattle.cluster_msgs.specs.declared.msg.Body.TheVariants as bodies
 use Rattle.msg_rounds.specs.Locks.{message_res, ack_res}
 use Rattle.cluster_model.specs.State.{Core}
+use Rattle.cluster_model.specs.After.{after}
 use Rattle.cluster_model.specs.Changes.{no_new_dev, sender_idle, node_out, with_view}
 use Rattle.cluster_model.specs.Granting.{path_is}
 use Rattle.cluster_model.specs.Joining.{newest, view_from, range_of_member, up}
 use Rattle.cluster_model.specs.Leaving.{die}
 use Rattle.cluster_model.specs.Processing.{device_lock_kept, see_device, do_body, do_message}
-use Rattle.cluster_model.specs.Receiving.{told_state, resume}
+use Rattle.cluster_model.specs.Receiving.{told_state, resume, resume_outcome}
 use Rattle.world_members.specs.Changes.{in_state, tries_over, member_died, locks_entered, locks_lost, suspends_at, range_dropped, receivers_told, requests_ended, hears, round_over, view_resumed_if}
 
 -- Paths.
@@ -32,12 +36,12 @@ mend_test : (b is : Bool) → not (is || b) ≡ (if b then false else not is)
 mend_test b is = grind arith
 
 pub path_cut : (paths now : Paths) (n l : ℕ) → path_open now ≡ cut_path (path_open paths) n l
-    → (λ m k. not (path_open now m k)) ≡ (λ m k. if (m == n) && (k == l) then true else not (path_open paths m k))
+    → ◌≡◌ {A = ℕ → ℕ → Bool} (λ m k. not (path_open now m k)) (λ m k. if (m == n) && (k == l) then true else not (path_open paths m k))
 path_cut paths now n l e = fun_ext (λ m. fun_ext (λ k.
     ap (λ (f : ℕ → ℕ → Bool). not (f m k)) e ∙ cut_test ((m == n) && (k == l)) (path_open paths m k)))
 
 pub path_mended : (paths now : Paths) (n l : ℕ) → path_open now ≡ mend_path (path_open paths) n l
-    → (λ m k. not (path_open now m k)) ≡ (λ m k. if (m == n) && (k == l) then false else not (path_open paths m k))
+    → ◌≡◌ {A = ℕ → ℕ → Bool} (λ m k. not (path_open now m k)) (λ m k. if (m == n) && (k == l) then false else not (path_open paths m k))
 path_mended paths now n l e = fun_ext (λ m. fun_ext (λ k.
     ap (λ (f : ℕ → ℕ → Bool). not (f m k)) e ∙ mend_test ((m == n) && (k == l)) (path_open paths m k)))
 
@@ -80,6 +84,14 @@ pub resume_steps : (core : Core) (n : ℕ) (b : Bool) → b ≡ (not (core.recei
     → view_resumed_if (hears (round_over core n) n None) n b ≡ resume core n
 resume_steps core n true e = rw (← e) refl
 resume_steps core n false e = rw (← e) refl
+
+resumed_as : (core : Core) (n : ℕ) (b : Bool) (o : Outcome) → o ≡ (if b then Broken else Whole)
+    → resume core n ≡ after core (Resume n) o
+resumed_as core n true o e = rw e refl
+resumed_as core n false o e = rw e refl
+
+pub resume_after : (core : Core) (n : ℕ) (o : Outcome) → o ≡ resume_outcome core n → resume core n ≡ after core (Resume n) o
+resume_after core n o e = resumed_as core n (core.receiver n).gone o e
 
 -- Processing.
 

@@ -38,6 +38,7 @@ member_joined core n = record core { members = joined core.members n }
 
 abbrev pub member_left : Core → ℕ → Core
 member_left core n = record core { members = left core.members n true }
+
 abbrev pub member_died : Core → ℕ → Core
 member_died core n = record core { members = died core.members n }
 

@@ -4,9 +4,9 @@ use Rattle.mdc_types.specs.Roles.{role_of, is_written}
 use Rattle.mdc_types.specs.declared.roles.Roles.{Roles}
 use Rattle.cluster_model.specs.Joining.{says_of}
 use Rattle.cluster_model.specs.State.{Tried}
-use Rattle.world_members.specs.Kept.{tried_of}
-use Rattle.world_members.specs.declared.stub.Attempt.{Attempt}
-use Rattle.world_members.specs.declared.stub.Attempt.TheVariants.{Untried}
+use Rattle.world_state.specs.Kept.{tried_of}
+use Rattle.world_state.specs.declared.attempt.Attempt.{Attempt}
+use Rattle.world_state.specs.declared.attempt.Attempt.TheVariants.{Untried}
 
 -- by leg
 abbrev pub tries_of : List Attempt → ℕ → Tried

@@ -15,26 +15,18 @@ ghost use Rattle.node_member.specs.Members.{join_refusal, die_refusal};
 ghost use Rattle.suspend_ranges.specs.Suspended.{ranges_of};
 ghost use Rattle.cluster_model.specs.Changes.{no_new_dev};
 ghost use Rattle.cluster_model.specs.Receiving.{resume_outcome};
-ghost use Rattle.world_members.specs.Changes.{in_state, heads_home, tries_over, member_joined, member_left, member_died, slot_taken, token_awaited, locks_entered, locks_left, locks_lost, device_kept, device_left, suspends_at, range_taken, range_dropped, receivers_told, requests_ended, hears, message_read, round_awaited, round_over, round_dropped, view_known, addition_over};
-ghost use Rattle.world_members.specs.Kept.{core_of};
+ghost use Rattle.world_members.specs.Changes.{heads_home, tries_over, member_joined, member_left, member_died, slot_taken, token_awaited, locks_entered, locks_left, locks_lost, device_kept, device_left, suspends_at, range_taken, range_dropped, receivers_told, requests_ended, message_read, round_awaited, round_over, round_dropped, view_known, addition_over};
+ghost use Rattle.world_state.specs.Kept.{core_of};
 
-use crate::stub::CoreState;
 use crate::tables;
-use cluster_msgs::Msg;
 use disk_addition::Addition;
 use dlm_modes::{Block, Mode};
-use mdc_types::{NodeId, NodeState, Outcome, Range, Res};
+use mdc_types::{NodeId, Outcome, Range, Res};
 use msg_rounds::{ReceiverPhase, SenderPhase, Verdict};
 use suspend_ranges::SuspendList;
+use world_state::CoreState;
 
 // Nodes.
-
-pub fn set_state(core: &mut CoreState, n: NodeId, state: NodeState)
-    requires { n < 16 }
-    ensures { core_of core.new ≡ in_state (core_of core.old) n state }
-{
-    core.states[n as usize] = state;
-}
 
 pub fn reset_heads(core: &mut CoreState, n: NodeId)
     requires { n < 16 }
@@ -171,13 +163,6 @@ pub fn end_requests(core: &mut CoreState, n: NodeId)
     ensures { core_of core.new ≡ requests_ended (core_of core.old) n }
 {
     core.requests.die(n);
-}
-
-pub fn set_heard(core: &mut CoreState, n: NodeId, heard: Option<Msg>)
-    requires { n < 16 }
-    ensures { core_of core.new ≡ hears (core_of core.old) n heard }
-{
-    core.heard[n as usize] = heard;
 }
 
 // The message is taken: its block, and its sender.

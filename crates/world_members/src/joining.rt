@@ -9,14 +9,14 @@ ghost use Rattle.cluster_model.specs.Guards.{refused_by};
 ghost use Rattle.cluster_model.specs.Joining.{is_untried, greatest, newest, missing_leg, view_from};
 ghost use Rattle.cluster_model.specs.Outcomes.{outcome_of};
 ghost use Rattle.cluster_model.specs.Table.{refusal};
-ghost use Rattle.world_members.specs.Kept.{Judges, Ready, core_of};
+ghost use Rattle.world_state.specs.Kept.{Judges, core_of};
+ghost use Rattle.world_state.specs.Ready.{Ready};
 
-use crate::stub::CoreState;
-use crate::{changes, newest, ranges};
-use crate::stubchecks::check;
+use crate::{changes, newest, ranges, stub};
 use leg_failure::View;
 use mdc_types::{Event, LegId, NodeId, NodeState, Outcome, Refusal, Role, Roles};
 use msg_rounds::SenderPhase;
+use world_state::{CoreState, check};
 
 /// The guards of `join n`.
 pub fn may_join(core: &CoreState, n: NodeId) -> Result<(), Refusal>
@@ -39,7 +39,7 @@ pub fn join(core: &mut CoreState, n: NodeId) -> Outcome
     changes::take_slot(core, n);
     changes::ask_token(core, n);
     changes::reset_heads(core, n);
-    changes::set_state(core, n, NodeState::Joining);
+    core.set_state(n, NodeState::Joining);
     Outcome::Done
 }
 
@@ -134,9 +134,9 @@ pub fn up(core: &mut CoreState, n: NodeId) -> Outcome
     let view = newest_view(core, n);
     let ranges = ranges::members_ranges(core);
     changes::enter_locks(core, n);
-    core.set_view(n, &view);
+    stub::set_view(core, n, &view);
     changes::set_suspended(core, n, ranges);
     changes::reset_tries(core, n);
-    changes::set_state(core, n, NodeState::Loaded);
+    core.set_state(n, NodeState::Loaded);
     Outcome::Done
 }

@@ -12,13 +12,13 @@ ghost use Rattle.cluster_model.specs.Phases.{is_none, copy_is};
 ghost use Rattle.cluster_model.specs.State.{sizes};
 ghost use Rattle.cluster_model.specs.Table.{refusal};
 ghost use Rattle.world_members.specs.Changes.{receivers_told, range_dropped};
-ghost use Rattle.world_members.specs.Kept.{Judges, Ready, core_of};
+ghost use Rattle.world_state.specs.Kept.{Judges, core_of};
+ghost use Rattle.world_state.specs.Ready.{Ready};
 
-use crate::stub::CoreState;
-use crate::stubchecks::check;
-use crate::{changes, tables};
+use crate::{changes, stub, tables};
 use mdc_types::{Event, LegId, NodeId, Outcome, Part, Refusal, Word};
 use msg_rounds::{ReceiverPhase, SenderPhase};
+use world_state::{CoreState, check};
 
 fn sends_nothing(core: &CoreState, n: NodeId) -> bool
     requires { n < nodes_of core.now.identity.geometry }
@@ -130,7 +130,7 @@ pub fn leave(core: &mut CoreState, n: NodeId) -> Outcome
     ensures after { core_of core.new ≡ after (core_of core.old) (Event.Leave n) result }
 {
     changes::leave_members(core, n);
-    core.node_out(n);
+    stub::node_out(core, n);
     changes::leave_locks(core, n);
     Outcome::Done
 }
@@ -144,9 +144,11 @@ pub fn may_die(core: &CoreState, n: NodeId) -> Result<(), Refusal>
     core.check_live(n)
 }
 
-fn has_published(phase: SenderPhase) -> bool
-    ensures { result ≡ has_published phase }
+fn has_published(core: &CoreState, n: NodeId) -> bool
+    requires { n < 16 }
+    ensures { result ≡ has_published ((core_of core.now).sender n) }
 {
+    let phase = core.senders[n as usize].sender_phase();
     matches!(phase, SenderPhase::Published | SenderPhase::Granted)
 }
 
@@ -155,7 +157,7 @@ fn tell_death(core: &mut CoreState, n: NodeId)
     requires { n < 16 }
     ensures { core_of core.new ≡ receivers_told (core_of core.old) n }
 {
-    let published = has_published(core.senders[n as usize].sender_phase());
+    let published = has_published(core, n);
     tables::tell_death(&mut core.receivers, &mut core.space, n, published);
 }
 
@@ -177,7 +179,7 @@ pub fn die(core: &mut CoreState, n: NodeId) -> Outcome
     changes::fence(core, n);
     tell_death(core, n);
     core.sender_idle(n);
-    core.node_out(n);
+    stub::node_out(core, n);
     drop_range(core, n);
     changes::lose_locks(core, n);
     changes::end_requests(core, n);

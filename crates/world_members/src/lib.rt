@@ -10,7 +10,6 @@ mod processing;
 mod ranges;
 mod receiving;
 mod stub;
-mod stubchecks;
 mod tables;
 
 pub use joining::{join, may_join, may_up, up};

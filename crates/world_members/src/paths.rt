@@ -2,10 +2,11 @@ ghost use Rattle.std.specs.Prelude.{◌≡◌, None};
 ghost use Rattle.cluster_model.specs.After.{after};
 ghost use Rattle.cluster_model.specs.Outcomes.{outcome_of};
 ghost use Rattle.cluster_model.specs.Table.{refusal};
-ghost use Rattle.world_members.specs.Kept.{Judges, Ready, core_of};
+ghost use Rattle.world_state.specs.Kept.{Judges, core_of};
+ghost use Rattle.world_state.specs.Ready.{Ready};
 
-use crate::stub::CoreState;
 use mdc_types::{Event, LegId, NodeId, Outcome, Refusal};
+use world_state::CoreState;
 
 /// The guards of `cut n l`.
 pub fn may_cut(core: &CoreState, n: NodeId, l: LegId) -> Result<(), Refusal>

@@ -12,15 +12,15 @@ ghost use Rattle.cluster_model.specs.Changes.{no_new_dev};
 ghost use Rattle.cluster_model.specs.Outcomes.{outcome_of};
 ghost use Rattle.cluster_model.specs.Processing.{draining_by, take_roles, see_device, do_body, do_message};
 ghost use Rattle.cluster_model.specs.Table.{refusal};
-ghost use Rattle.world_members.specs.Kept.{Judges, Ready, core_of};
+ghost use Rattle.world_state.specs.Kept.{Judges, core_of};
+ghost use Rattle.world_state.specs.Ready.{Ready};
 
-use crate::changes;
-use crate::stub::CoreState;
-use crate::stubchecks::check;
+use crate::{changes, stub};
 use cluster_msgs::Body;
 use leg_failure::View;
 use mdc_types::{Event, LegId, NodeId, Outcome, Refusal, Roles};
 use msg_rounds::ReceiverPhase;
+use world_state::{CoreState, check};
 
 fn has_taken(core: &CoreState, n: NodeId) -> bool
     requires { n < nodes_of core.now.identity.geometry }
@@ -75,7 +75,7 @@ fn take_roles(core: &mut CoreState, n: NodeId, roles: &Roles, size: u32)
 {
     let view = view_taken(core, n, roles, size);
     changes::keep_device(core, n);
-    core.set_view(n, &view);
+    stub::set_view(core, n, &view);
     changes::end_addition(core, n);
 }
 

@@ -6,12 +6,12 @@ ghost use Rattle.suspend_ranges.specs.Suspended.{ranges_of};
 ghost use Rattle.cluster_model.specs.Phases.{is_up};
 ghost use Rattle.cluster_model.specs.Joining.{told_range, range_of_member};
 ghost use Rattle.laws_locks.specs.Rounded.{Rounded};
-ghost use Rattle.world_members.specs.Kept.{core_of};
+ghost use Rattle.world_state.specs.Kept.{core_of};
 
-use crate::stub::CoreState;
 use cluster_msgs::read_range;
 use mdc_types::{NodeId, NodeState, Range};
 use suspend_ranges::SuspendList;
+use world_state::CoreState;
 
 fn is_up(core: &CoreState, m: NodeId) -> bool
     requires { m < 16 }

@@ -10,15 +10,15 @@ ghost use Rattle.cluster_model.specs.Outcomes.{outcome_of};
 ghost use Rattle.cluster_model.specs.Receiving.{kind_in, told_state};
 ghost use Rattle.cluster_model.specs.Table.{refusal};
 ghost use Rattle.world_members.specs.Changes.{view_resumed_if};
-ghost use Rattle.world_members.specs.Kept.{Judges, Ready, core_of};
+ghost use Rattle.world_state.specs.Kept.{Judges, core_of};
+ghost use Rattle.world_state.specs.Ready.{Ready};
 
 use crate::changes;
-use crate::stub::CoreState;
-use crate::stubchecks::check;
 use cluster_msgs::{Body, Msg, read_msg};
 use dlm_modes::Mode;
 use mdc_types::{Event, NodeId, Outcome, Refusal, Res};
 use msg_rounds::ReceiverPhase;
+use world_state::{CoreState, check};
 
 fn receives_nothing(core: &CoreState, n: NodeId) -> bool
     requires { n < nodes_of core.now.identity.geometry }
@@ -65,7 +65,7 @@ pub fn take(core: &mut CoreState, n: NodeId) -> Outcome
 {
     let (block, sender) = changes::take_message(core, n);
     let heard = read_msg(&block);
-    changes::set_heard(core, n, heard);
+    core.set_heard(n, heard);
     Outcome::Message {
         kind: kind_of(&heard),
         sender,
@@ -76,7 +76,10 @@ fn may_end(core: &CoreState, n: NodeId) -> bool
     requires { n < nodes_of core.now.identity.geometry }
     ensures { result ≡ may_resume ((core_of core.now).receiver n).phase }
 {
-    matches!(core.receiver(n).receiver_phase(), ReceiverPhase::Waiting | ReceiverPhase::Ready)
+    matches!(
+        core.receiver(n).receiver_phase(),
+        ReceiverPhase::Waiting | ReceiverPhase::Ready
+    )
 }
 
 fn has_message(core: &CoreState, n: NodeId) -> bool
@@ -135,7 +138,7 @@ pub fn resume(core: &mut CoreState, n: NodeId) -> Outcome
 {
     let knows = knows_whole(core, n);
     let outcome = changes::end_round(core, n);
-    changes::set_heard(core, n, None);
+    core.set_heard(n, None);
     resume_view(core, n, knows);
     outcome
 }
@@ -167,6 +170,6 @@ pub fn drop_message(core: &mut CoreState, n: NodeId) -> Outcome
     ensures after { core_of core.new ≡ after (core_of core.old) (Event.DropMessage n) result }
 {
     changes::drop_round(core, n);
-    changes::set_heard(core, n, None);
+    core.set_heard(n, None);
     Outcome::Done
 }

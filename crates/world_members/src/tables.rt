@@ -15,12 +15,12 @@ ghost use Rattle.cluster_model.specs.State as machine;
 ghost use Rattle.cluster_model.specs.Changes.{no_new_dev};
 ghost use Rattle.world_members.specs.Tables.{senders_of, receivers_of, heads_of, all_tries, suspended_of};
 
-use crate::stub::Attempt;
 use dlm_modes::{Block, Mode};
 use dlm_space::Space;
 use mdc_types::{NodeId, Range, Res};
 use msg_rounds::{Receiver, ReceiverPhase, Sender, SenderPhase, Verdict};
 use suspend_ranges::SuspendList;
+use world_state::Attempt;
 
 /// The node's heads stand at sector 0.
 pub fn go_home(heads: &mut [[u32; 8]; 16], n: NodeId)
@@ -57,7 +57,12 @@ pub fn put_range(lists: &mut [SuspendList; 16], n: NodeId, o: NodeId, r: Range)
 }
 
 /// The node asks the token.
-pub fn ask_token(senders: &mut [Sender; 16], space: &mut Space, receivers: &[Receiver; 16], n: NodeId)
+pub fn ask_token(
+    senders: &mut [Sender; 16],
+    space: &mut Space,
+    receivers: &[Receiver; 16],
+    n: NodeId,
+)
     requires node { n < 16 }
     requires holds { SenderHolds (locks_of space.old) n (senders_of senders.old n) }
     requires sender { senders_of senders.old n ≡ SenderPhase.Idle }
@@ -147,6 +152,17 @@ fn tell_all(receivers: &mut [Receiver; 16], space: &mut Space, n: NodeId)
     }
 }
 
+// Each receiver hears of the death, where the node's message is published.
+fn tell_if(receivers: &mut [Receiver; 16], space: &mut Space, n: NodeId, published: bool)
+    ensures receivers { receivers_of receivers.new ≡ (λ m. if published
+        then heard_death n (receivers_of receivers.old m) else receivers_of receivers.old m) }
+    ensures space { space.new ≡ space.old }
+{
+    if published {
+        tell_all(receivers, space, n)
+    }
+}
+
 /// The node is dead: its receiver is new, and the others hear of it where its message is published.
 pub fn tell_death(receivers: &mut [Receiver; 16], space: &mut Space, n: NodeId, published: bool)
     requires { n < 16 }
@@ -155,9 +171,7 @@ pub fn tell_death(receivers: &mut [Receiver; 16], space: &mut Space, n: NodeId, 
         else receivers_of receivers.old m) }
     ensures space { space.new ≡ space.old }
 {
-    if published {
-        tell_all(receivers, space, n);
-    }
+    tell_if(receivers, space, n, published);
     receivers[n as usize] = Receiver::new();
 }
 

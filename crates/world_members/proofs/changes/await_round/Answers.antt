@@ -1,7 +1,7 @@
 use Rattle.std.proofs.Common.{◌≡◌, ap, subst}
 use Rattle.world_members.specs.Changes.{round_awaited}
-use Rattle.world_members.specs.contracts.stub.CoreState.{the_view}
-use Rattle.world_members.specs.Kept.{Kept, core_of}
+use Rattle.world_state.specs.contracts.state.CoreState.{the_view}
+use Rattle.world_state.specs.Kept.{Kept, core_of}
 use Rattle.world_members.proofs.changes.await_round.Goals as goal
 
 pub returns : goal.returns

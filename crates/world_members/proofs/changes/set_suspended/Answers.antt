@@ -1,8 +1,8 @@
 use Rattle.std.proofs.Common.{◌≡◌, ap, subst}
 use Rattle.world_members.specs.Changes.{suspends_at}
 use Rattle.suspend_ranges.specs.Suspended.{ranges_of}
-use Rattle.world_members.specs.contracts.stub.CoreState.{the_view}
-use Rattle.world_members.specs.Kept.{Kept, core_of}
+use Rattle.world_state.specs.contracts.state.CoreState.{the_view}
+use Rattle.world_state.specs.Kept.{Kept, core_of}
 use Rattle.world_members.proofs.changes.set_suspended.Goals as goal
 
 pub returns : goal.returns

@@ -1,7 +1,7 @@
 use Rattle.std.proofs.Common.{◌≡◌, ap, subst}
 use Rattle.world_members.specs.Changes.{message_read}
-use Rattle.world_members.specs.contracts.stub.CoreState.{the_view}
-use Rattle.world_members.specs.Kept.{Kept, core_of}
+use Rattle.world_state.specs.contracts.state.CoreState.{the_view}
+use Rattle.world_state.specs.Kept.{Kept, core_of}
 use Rattle.world_members.proofs.changes.take_message.Goals as goal
 
 pub returns-clause-core : goal.returns-clause-core

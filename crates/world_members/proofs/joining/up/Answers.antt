@@ -4,7 +4,7 @@ use Rattle.mdc_types.specs.declared.roles.NodeState.TheVariants.{Loaded}
 use Rattle.suspend_ranges.specs.Suspended.{ranges_of}
 use Rattle.cluster_model.specs.Changes.{with_view}
 use Rattle.world_members.specs.Changes.{in_state, tries_over, suspends_at}
-use Rattle.world_members.specs.Kept.{core_of}
+use Rattle.world_state.specs.Kept.{core_of}
 use Rattle.world_members.proofs.Stepping.{up_steps}
 use Rattle.world_members.proofs.joining.up.Goals as goal
 

@@ -1,7 +1,7 @@
 use Rattle.std.proofs.Common.{ap, ◌∙◌}
 use Rattle.cluster_model.specs.Changes.{sender_idle, node_out}
 use Rattle.world_members.specs.Changes.{receivers_told, range_dropped, locks_lost, requests_ended}
-use Rattle.world_members.specs.Kept.{core_of}
+use Rattle.world_state.specs.Kept.{core_of}
 use Rattle.world_members.proofs.Stepping.{die_steps}
 use Rattle.world_members.proofs.leaving.die.Goals as goal
 

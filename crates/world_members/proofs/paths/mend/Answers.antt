@@ -1,7 +1,7 @@
 use Rattle.std.proofs.Common.{◌≡◌, false, ap, subst}
 use Rattle.cluster_model.specs.Granting.{path_is}
-use Rattle.world_members.specs.contracts.stub.CoreState.{the_view}
-use Rattle.world_members.specs.Kept.{Kept, core_of}
+use Rattle.world_state.specs.contracts.state.CoreState.{the_view}
+use Rattle.world_state.specs.Kept.{Kept, core_of}
 use Rattle.world_members.proofs.Stepping.{path_mended}
 use Rattle.world_members.proofs.paths.mend.Goals as goal
 

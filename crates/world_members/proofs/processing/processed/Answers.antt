@@ -3,7 +3,7 @@ use Rattle.msg_rounds.specs.Holds.{ReceiverHolds}
 use Rattle.msg_rounds.specs.Refusals.{processed_refusal}
 use Rattle.cluster_model.specs.State.{Core}
 use Rattle.world_members.specs.Changes.{round_awaited}
-use Rattle.world_members.specs.Kept.{core_of}
+use Rattle.world_state.specs.Kept.{core_of}
 use Rattle.world_members.proofs.Stepping.{did_locks, did_receiver}
 use Rattle.world_members.proofs.Telling.{processed_at, from_below, heard_in_range, receiver_still}
 use Rattle.world_members.proofs.processing.processed.Goals as goal
@@ -17,7 +17,7 @@ do_message-requires-clause-sender c =
 pub do_message-requires-clause-heard : goal.do_message-requires-clause-heard
 do_message-requires-clause-heard c =
     let core = core_of c.args.core.now in
-    heard_in_range core c.args.n c.requires.ready.read (processed_at core c.args.n c.requires.ready.rounded c.requires.accepted).taken
+    heard_in_range core c.args.n c.requires.ready.messages (processed_at core c.args.n c.requires.ready.rounded c.requires.accepted).taken
 
 pub await_round-requires-clause-may : goal.await_round-requires-clause-may
 await_round-requires-clause-may c =

@@ -1,7 +1,7 @@
 use Rattle.std.proofs.Common.{None, ap, ◌∙◌}
 use Rattle.world_members.specs.Changes.{hears, view_resumed_if}
-use Rattle.world_members.specs.Kept.{core_of}
-use Rattle.world_members.proofs.Stepping.{resume_steps}
+use Rattle.world_state.specs.Kept.{core_of}
+use Rattle.world_members.proofs.Stepping.{resume_steps, resume_after}
 use Rattle.world_members.proofs.receiving.resume.Goals as goal
 
 pub end_round-outcome-requires-clause-holds : goal.end_round-outcome-requires-clause-holds
@@ -18,3 +18,4 @@ returns-clause-after c =
     ∙ ap (λ x. view_resumed_if x n knows) (c.set_heard.ensures
     ∙ ap (λ x. hears x n None) c.end_round-outcome.ensures.core)
     ∙ resume_steps (core_of c.args.core.now) n knows c.knows_whole-knows.ensures
+    ∙ resume_after (core_of c.args.core.now) n c.end_round-outcome.result c.end_round-outcome.ensures.outcome

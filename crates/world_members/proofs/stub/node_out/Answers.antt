@@ -1,4 +1,4 @@
-use Rattle.world_members.proofs.stub.Bitmaps.old_target.Goals as goal
+use Rattle.world_members.proofs.stub.node_out.Goals as goal
 
 pub unreachable-requires : goal.unreachable-requires
 unreachable-requires c = ?

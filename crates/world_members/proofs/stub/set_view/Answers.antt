@@ -1,4 +1,4 @@
-use Rattle.world_members.proofs.stub.Additions.set_addition.Goals as goal
+use Rattle.world_members.proofs.stub.set_view.Goals as goal
 
 pub unreachable-requires : goal.unreachable-requires
 unreachable-requires c = ?
