@@ -1,5 +1,5 @@
 -- Members come in one after another.
-use Rattle.std.proofs.Common.{◌≡◌, ◌≢◌, inl, inr, ℕ, ◌+◌, ◌<◌, ◌==◌, ◌&&◌, Bool, true, false, if◌then◌else◌, nat_lt, refl, arith, ap, sym, ◌∙◌, Option, Some, None}
+use Rattle.std.proofs.Common.{◌≡◌, ◌≢◌, inl, inr, ℕ, ◌+◌, ◌<◌, ◌==◌, ◌&&◌, Bool, true, false, not, [], if◌then◌else◌, nat_lt, refl, arith, ap, sym, ◌∙◌, Option, Some, None}
 use Rattle.std.proofs.Math.Path.{fun_ext}
 use Rattle.std.proofs.lemmas.Bool.{cases_eq}
 use Rattle.std.proofs.lemmas.Bool.Decides.{nat_tests}
@@ -11,7 +11,8 @@ use Rattle.mdc_types.specs.Geometry.{chunks_of, pages_of, nodes_of}
 use Rattle.mdc_types.specs.Roles.{role_of}
 use Rattle.mdc_types.specs.declared.roles.NodeState.{NodeState}
 use Rattle.mdc_types.specs.declared.roles.NodeState.TheVariants.{Up, Out}
-use Rattle.dlm_space.specs.Locks.{Lock, holding, new_lock}
+use Rattle.dlm_modes.proofs.FirstLaws.{first_such_none}
+use Rattle.dlm_space.specs.Locks.{Lock, holding, new_lock, ask_now_refusal, blocker, is_against, disagrees}
 use Rattle.msg_rounds.specs.Locks.{ack_res}
 use Rattle.leg_failure.specs.Views.{NodeView, new_view}
 use Rattle.node_bitmaps.specs.Bitmap.{Bitmap, empty}
@@ -113,12 +114,79 @@ came_in o a b c d e f g n is lt p q r s t u v =
 pub stayed_out : (o : Origin) (n : ℕ) → is_member o n ≡ false → opened_with o (below (is_member o) n) ≡ opened_with o (below (is_member o) (n + 1))
 stayed_out o n is = ap (opened_with o) (fun_ext (λ m. sym (not_one_more (is_member o) n m is)))
 
+none_below : (member : ℕ → Bool) (m : ℕ) → false ≡ (member m && nat_lt m 0)
+none_below member m = grind (arith, nat_tests)
+
 -- before the first, and after the last
 pub none_yet : (o : Origin) → opened_with o (λ n. false) ≡ opened_with o (below (is_member o) 0)
-none_yet o = ap (opened_with o) (fun_ext (λ m. grind (arith, nat_tests)))
+none_yet o = ap (opened_with o) (fun_ext (λ m. none_below (is_member o) m))
 
 all_below : (o : Origin) (m : ℕ) → below (is_member o) (nodes_of o.sizes) m ≡ is_member o m
 all_below o m = grind (arith, nat_tests)
 
 pub all_in : (o : Origin) → opened_with o (below (is_member o) (nodes_of o.sizes)) ≡ core_at o
 all_in o = ap (opened_with o) (fun_ext (all_below o)) ∙ refl
+
+-- no lock that a member takes is in its way
+
+free_of : (lock : Lock) (n : ℕ) (mode : Mode) → lock.held n ≡ None → lock.requests ≡ []
+    → ((m : ℕ) → is_against lock n mode m ≡ false) → ask_now_refusal lock n mode ≡ None
+free_of lock n mode held requests against =
+    let none : blocker lock n mode ≡ None = first_such_none (is_against lock n mode) 0 16 (λ k le lt. against k) in
+    rw (held, requests, none) refl
+
+not_below : (member : ℕ → Bool) (n : ℕ) → below member n n ≡ false
+not_below member n = grind (arith, nat_tests)
+
+held_agrees : (b : Bool) → disagrees CR (if b then Some CR else None) ≡ false
+held_agrees true = refl
+held_agrees false = refl
+
+not_against : (t d : Bool) → d ≡ false → (not t && d) ≡ false
+not_against true d e = refl
+not_against false d e = e
+
+slot_against : (member : ℕ → Bool) (n m : ℕ) → is_against (slot_with (below member n) n) n PW m ≡ false
+slot_against member n m = elim (cases_eq m n) [
+  | inl same ↦ grind (arith, nat_tests, same)
+  | inr other ↦ grind (arith, nat_tests, other)
+]
+
+slot_held : (member : ℕ → Bool) (n : ℕ) → (slot_with (below member n) n).held n ≡ None
+slot_held member n = grind (arith, nat_tests)
+
+free_at_slot : (member : ℕ → Bool) (n : ℕ) → ask_now_refusal (slot_with (below member n) n) n PW ≡ None
+free_at_slot member n = free_of (slot_with (below member n) n) n PW (slot_held member n) refl (slot_against member n)
+
+free_at_held : (member : ℕ → Bool) (n : ℕ) → ask_now_refusal (held_with (below member n) CR) n CR ≡ None
+free_at_held member n = free_of (held_with (below member n) CR) n CR (rw (not_below member n) refl) refl
+    (λ m. not_against (m == n) _ (held_agrees (below member n m)))
+
+slot_there : (member : ℕ → Bool) (n : ℕ) → n < 16 → locks_with (below member n) n ≡ slot_with (below member n) n
+slot_there member n lt = grind (arith, nat_tests)
+
+other_place : (locks : ℕ → Lock) (n r : ℕ) (x : Lock) → n ≢ r → with_at locks n x r ≡ locks r
+other_place locks n r x other = grind (arith, nat_tests, other)
+
+module _ (o : Origin) (a b c d e : Core) (n : ℕ) (lt : n < 16) (p : a ≡ opened_with o (below (is_member o) n))
+    (q : b ≡ record a { state = with_at a.state n Up })
+    (r : c ≡ record b { view = with_at b.view n (new_view (role_of o.roles) o.sizes.sectors (λ l. false)) }) where
+
+  c_locks : c.locks ≡ locks_with (below (is_member o) n)
+  c_locks = ap (λ k. k.locks) r ∙ ap (λ k. k.locks) q ∙ ap (λ k. k.locks) p
+
+  pub free_slot : ask_now_refusal (c.locks n) n PW ≡ None
+  free_slot = ap (λ lock. ask_now_refusal lock n PW) (ap (λ f. f n) c_locks ∙ slot_there (is_member o) n lt) ∙ free_at_slot (is_member o) n
+
+  d_ack : d ≡ record c { locks = with_at c.locks n (holding (c.locks n) n PW) } → d.locks ack_res ≡ held_with (below (is_member o) n) CR
+  d_ack s = ap (λ k. k.locks ack_res) s ∙ other_place c.locks n ack_res _ (λ same. omega (arith, lt, same)) ∙ ap (λ f. f ack_res) c_locks
+
+  d_dev : d ≡ record c { locks = with_at c.locks n (holding (c.locks n) n PW) } → d.locks no_new_dev ≡ held_with (below (is_member o) n) CR
+  d_dev s = ap (λ k. k.locks no_new_dev) s ∙ other_place c.locks n no_new_dev _ (λ same. omega (arith, lt, same)) ∙ ap (λ f. f no_new_dev) c_locks
+
+  pub free_ack : d ≡ record c { locks = with_at c.locks n (holding (c.locks n) n PW) } → ask_now_refusal (d.locks ack_res) n CR ≡ None
+  free_ack s = ap (λ lock. ask_now_refusal lock n CR) (d_ack s) ∙ free_at_held (is_member o) n
+
+  pub free_dev : d ≡ record c { locks = with_at c.locks n (holding (c.locks n) n PW) } → e ≡ record d { locks = with_at d.locks ack_res (holding (d.locks ack_res) n CR) }
+      → ask_now_refusal (e.locks no_new_dev) n CR ≡ None
+  free_dev s t = ap (λ lock. ask_now_refusal lock n CR) (ap (λ k. k.locks no_new_dev) t ∙ d_dev s) ∙ free_at_held (is_member o) n

@@ -11,22 +11,14 @@ ghost use Rattle.world_openings.specs.Members.{opened_with};
 
 use crate::Opening;
 use dlm_modes::Mode;
-use dlm_space::Space;
 use leg_failure::View;
-use leg_store::PathTable;
-use mdc_types::{NodeId, NodeState, Res, Role, Roles};
-use msg_rounds::{Receiver, Sender};
+use mdc_types::{NodeId, NodeState, Res};
 use node_bits::Bitmaps;
 use node_copies::{Additions, Copies, Recoveries};
 use node_member::Record;
 use node_requests::Requests;
 use std::alloc::{AllocError, Global};
-use suspend_ranges::SuspendList;
 use world_state::{Attempt, CoreState};
-
-const SPARES: Roles = Roles {
-    legs: [Role::Spare; 8],
-};
 
 // Nobody is in.
 fn empty_state(alloc: Global, opening: &Opening) -> Result<CoreState, AllocError>
@@ -39,26 +31,18 @@ fn empty_state(alloc: Global, opening: &Opening) -> Result<CoreState, AllocError
     let copies = Copies::new(alloc, &geometry)?;
     let recoveries = Recoveries::new(alloc, &geometry)?;
     let additions = Additions::new(alloc, &geometry)?;
-    Ok(CoreState {
-        identity: opening.identity(),
-        states: [NodeState::Out; 16],
-        views: [View::new(SPARES, 0); 16],
-        heads: [[0; 8]; 16],
+    let tried = vec![in alloc; [Attempt::Untried; 8]; 16]?;
+    let members = Record::new(opening.members(), opening.pending(), opening.events());
+    Ok(CoreState::empty(
+        opening.identity(),
+        members,
+        tried,
         requests,
-        space: Space::new(),
-        senders: [Sender::new(); 16],
-        offers: [None; 16],
-        receivers: [Receiver::new(); 16],
-        heard: [None; 16],
-        tried: [[Attempt::Untried; 8]; 16],
-        members: Record::new(opening.members(), opening.pending(), opening.events()),
-        paths: PathTable::new(),
         bitmaps,
-        suspended: [SuspendList::new(); 16],
         copies,
         recoveries,
         additions,
-    })
+    ))
 }
 
 // A lock that nobody holds in a way that disagrees is taken at once.
@@ -79,6 +63,7 @@ fn open_bits(core: &mut CoreState, n: NodeId, warm: bool)
 }
 
 // The node comes in as a member.
+#[tactic(auto, using(crate::proofs::Members::free_slot, crate::proofs::Members::free_ack, crate::proofs::Members::free_dev, crate::proofs::Members::came_in))]
 fn bring_in(core: &mut CoreState, opening: &Opening, n: NodeId)
     requires node { n < nodes_of opening.now.sizes }
     requires member { is_member opening.now n ≡ true }
