@@ -6,5 +6,5 @@ pub loop-list-preserved : goal.loop-list-preserved
 loop-list-preserved c =
     owner_dropped c.args.lists.now c.loop-list.lists c.loop-list.list-index c.args.o _ c.drop_owner.new.self (omega arith) c.loop-list.invariant c.drop_owner.ensures
 
-pub returns : goal.returns
-returns c = owner_gone c.args.lists.now c.loop-list.lists c.loop-list.list-index c.args.o (omega arith) c.loop-list.invariant
+pub returns-clause-ranges : goal.returns-clause-ranges
+returns-clause-ranges c = owner_gone c.args.lists.now c.loop-list.lists c.loop-list.list-index c.args.o (omega arith) c.loop-list.invariant
