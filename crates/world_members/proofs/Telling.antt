@@ -1,6 +1,6 @@
 -- What a row tells whose guards refuse nothing: no call that it makes is refused.
 use Rattle.std.proofs.Common.{◌≡◌, ◌≢◌, ◌<◌, ◌≤◌, ◌==◌, ◌&&◌, ℕ, Bool, true, false, not, List, [], ◌∷◌, Option, Some, None, refl, sym, ap, ◌∙◌, arith, if◌then◌else◌}
-use Rattle.std.specs.Prelude.{is_some, nat_lt, IfSome}
+use Rattle.std.specs.Prelude.{is_some, nat_lt, IfSome, length, get_or}
 use Rattle.std.proofs.lemmas.Bool.Decides.{nat_tests}
 use Rattle.dlm_modes.specs.Guards.{unless, or_then, first_of}
 use Rattle.dlm_modes.specs.Points.{with_at}
@@ -23,7 +23,10 @@ use Rattle.cluster_msgs.specs.Messages.{IsInRange}
 use Rattle.cluster_msgs.specs.Reading.{message_in}
 use Rattle.cluster_msgs.specs.declared.msg.Msg.{Msg}
 use Rattle.cluster_msgs.proofs.Said.{says_what_is_spelled}
-use Rattle.cluster_model.specs.State.{Core}
+use Rattle.cluster_model.specs.State.{Core, sizes}
+use Rattle.cluster_model.specs.Transfers.{reads_from}
+use Rattle.world_state.specs.Ready.{Ready}
+use Rattle.world_state.specs.Told.{Fits}
 use Rattle.cluster_model.specs.Guards.{no_node, not_fenced, no_leg, is_out}
 use Rattle.cluster_model.specs.Phases.{is_up}
 use Rattle.cluster_model.specs.Table.{refusal}
@@ -260,3 +263,22 @@ load_at core n l r e =
 
 pub up_at : (core : Core) (n : ℕ) → Rounded core → refusal core (events.Up n) ≡ None → n < 16
 up_at core n r e = (living core n _ r.numbered.nodes e).node
+
+-- The superblock of a leg.
+pub record LoadAt (core : Core) (n l : ℕ) (lengths : List ℕ) : Type 0 where
+  pub node : n < 16
+  pub leg : l < 8
+  pub there : l < length lengths
+  pub within : 8 < get_or lengths l 0
+
+pub loads_at : (core : Core) (n l : ℕ) (lengths : List ℕ) → Ready core → refusal core (events.Load n l) ≡ None → Fits (sizes core) lengths
+    → LoadAt core n l lengths
+loads_at core n l lengths r e f =
+    let p = load_at core n l r.rounded e in
+    let on = r.on_legs (events.Load n l) (reads_from n l 8) e refl in
+    record {
+      node = p.node;
+      leg = omega (arith, p.leg, r.range.legs.sizes_fit.legs.1);
+      there = omega (arith, p.leg, f.count);
+      within = omega (arith, f.each l p.leg, on.place);
+    }

@@ -15,7 +15,7 @@ ghost use Rattle.world_members.specs.Changes.{receivers_told, range_dropped};
 ghost use Rattle.world_state.specs.Kept.{Judges, core_of};
 ghost use Rattle.world_state.specs.Ready.{Ready};
 
-use crate::{changes, stub, tables};
+use crate::{changes, tables};
 use mdc_types::{Event, LegId, NodeId, Outcome, Part, Refusal, Word};
 use msg_rounds::{ReceiverPhase, SenderPhase};
 use world_state::{CoreState, check};
@@ -130,7 +130,7 @@ pub fn leave(core: &mut CoreState, n: NodeId) -> Outcome
     ensures after { core_of core.new ≡ after (core_of core.old) (Event.Leave n) result }
 {
     changes::leave_members(core, n);
-    stub::node_out(core, n);
+    core.node_out(n);
     changes::leave_locks(core, n);
     Outcome::Done
 }
@@ -179,7 +179,7 @@ pub fn die(core: &mut CoreState, n: NodeId) -> Outcome
     changes::fence(core, n);
     tell_death(core, n);
     core.sender_idle(n);
-    stub::node_out(core, n);
+    core.node_out(n);
     drop_range(core, n);
     changes::lose_locks(core, n);
     changes::end_requests(core, n);

@@ -15,7 +15,7 @@ ghost use Rattle.cluster_model.specs.Table.{refusal};
 ghost use Rattle.world_state.specs.Kept.{Judges, core_of};
 ghost use Rattle.world_state.specs.Ready.{Ready};
 
-use crate::{changes, stub};
+use crate::changes;
 use cluster_msgs::Body;
 use leg_failure::View;
 use mdc_types::{Event, LegId, NodeId, Outcome, Refusal, Roles};
@@ -75,7 +75,7 @@ fn take_roles(core: &mut CoreState, n: NodeId, roles: &Roles, size: u32)
 {
     let view = view_taken(core, n, roles, size);
     changes::keep_device(core, n);
-    stub::set_view(core, n, &view);
+    core.set_view(n, view);
     changes::end_addition(core, n);
 }
 
