@@ -1,0 +1,11 @@
+//! The rows of requests: writes and reads of a node, and its write-intent bitmap on the legs.
+//!
+//! Each row has its guards in a function of their own, and its effect in another. A row takes no memory.
+#![tactic(auto)]
+
+mod guards;
+
+pub use guards::{
+    may_ask_read, may_ask_write, may_break_write, may_clear, may_end_write, may_in, may_out,
+    may_write_page,
+};
