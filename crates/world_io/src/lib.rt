@@ -3,9 +3,16 @@
 //! Each row has its guards in a function of their own, and its effect in another. A row takes no memory.
 #![tactic(auto)]
 
+mod bits;
+mod changes;
 mod guards;
+mod reads;
+mod writes;
 
 pub use guards::{
     may_ask_read, may_ask_write, may_break_write, may_clear, may_end_write, may_in, may_out,
     may_write_page,
 };
+pub use bits::clear;
+pub use reads::ask_read;
+pub use writes::{ask_write, break_write, end_write};
