@@ -1,5 +1,11 @@
 -- The core after a change of the requests, or of the bitmaps.
-use Rattle.std.proofs.Common.{◌≡◌, ℕ, ◌==◌, List, refl, ap, ◌∙◌, arith, Bool, true, if◌then◌else◌}
+use Rattle.std.proofs.Common.{◌≡◌, ℕ, ◌+◌, ◌==◌, List, [], ◌∷◌, ◌++◌, Option, Some, None, refl, ap, sym, ◌∙◌, arith, Bool, true, false, if◌then◌else◌}
+use Rattle.mdc_types.specs.Geometry.{chunk_of}
+use Rattle.mdc_types.specs.declared.numbers.Sector.{Sector}
+use Rattle.mirror_io.specs.Flight.{write_in, read_in, without_write, new_write, start_in, done_in}
+use Rattle.cluster_model.specs.Changes.{headed}
+use Rattle.cluster_model.specs.Reads.{end_read, in_done, read_sector}
+use Rattle.cluster_model.specs.Writes.{ask_write, start_write, out_done, write_ended, write_sector, bitmap_ended}
 use Rattle.std.proofs.Math.Path.{fun_ext}
 use Rattle.std.proofs.lemmas.Bool.Decides.{nat_tests}
 use Rattle.dlm_modes.specs.Points.{with_at}
@@ -8,7 +14,7 @@ use Rattle.mirror_io.specs.declared.live.LiveRead.{LiveRead}
 use Rattle.node_bitmaps.specs.Bitmap.{Bitmap, with_set, with_need, entered, exited}
 use Rattle.node_bits.specs.Bitmaps.{Maps, bitmaps_of}
 use Rattle.node_requests.specs.Requests.{AllRequests, writes_of, reads_of, writes_made_of, reads_made_of}
-use Rattle.cluster_model.specs.State.{Core}
+use Rattle.cluster_model.specs.State.{Core, sizes}
 use Rattle.world_state.specs.Kept.{Kept, core_of}
 
 abbrev flying : Core → (ℕ → List LiveWrite) → (ℕ → List LiveRead) → (ℕ → ℕ) → (ℕ → ℕ) → Core
@@ -63,3 +69,57 @@ module _ (k : Kept) (mid now : Maps) (n c : ℕ) where
 -- the live writes of a chunk stay where the set changes
 pub same_counts : (f f1 : ℕ → Bitmap) (n c : ℕ) (b : Bool) → f1 ≡ with_at f n (with_set (f n) c b) → (f1 n).writes c ≡ (f n).writes c
 same_counts f f1 n c b e = ap (λ (x : ℕ → Bitmap). (x n).writes c) e ∙ grind (arith, nat_tests)
+
+-- The core after a row's changes, one after another.
+
+abbrev set_entered : Core → ℕ → ℕ → Core
+set_entered core n c = record core { bitmap = with_at core.bitmap n (entered (with_set (core.bitmap n) c true) c) }
+
+abbrev asked : Core → ℕ → ℕ → Sector → Core
+asked core n s v = record core {
+  writes = with_at core.writes n (core.writes n ++ new_write (core.writes_made n) s v ∷ []);
+  writes_made = with_at core.writes_made n (core.writes_made n + 1);
+}
+
+pub ask_write_after : (core x0 x1 : Core) (n s c : ℕ) (v : Sector) → c ≡ chunk_of (sizes core) s → x0 ≡ set_entered core n c → x1 ≡ asked x0 n s v → x1 ≡ ask_write core n s v
+ask_write_after core x0 x1 n s c v chunk e0 e1 = e1 ∙ ap (λ (x : Core). asked x n s v) (e0 ∙ ap (set_entered core n) chunk)
+
+abbrev dropped : Core → ℕ → ℕ → Core
+dropped core n k = record core { writes = with_at core.writes n (without_write k (core.writes n)) }
+
+abbrev set_bits : Core → ℕ → Bitmap → Core
+set_bits core n m = record core { bitmap = with_at core.bitmap n m }
+
+-- the bits at the end of a write, whose chunk is known
+abbrev bits_ended : Bool → Bitmap → ℕ → Bitmap
+bits_ended false m c = exited m c
+bits_ended true m c = with_need (exited m c) c true
+
+bits_are_ended : (core : Core) (n c : ℕ) (w : LiveWrite) (broken : Bool) → c ≡ chunk_of (sizes core) w.sector → bits_ended broken (core.bitmap n) c ≡ bitmap_ended core n (Some w) broken
+bits_are_ended core n c w false chunk = ap (λ (j : ℕ). exited (core.bitmap n) j) chunk
+bits_are_ended core n c w true chunk = ap (λ (j : ℕ). with_need (exited (core.bitmap n) j) j true) chunk
+
+pub ended_after : (core x0 x1 : Core) (n k c : ℕ) (w : LiveWrite) (broken : Bool) → write_in k (core.writes n) ≡ Some w → c ≡ chunk_of (sizes core) w.sector
+    → x0 ≡ set_bits core n (bits_ended broken (core.bitmap n) c) → x1 ≡ dropped x0 n k → x1 ≡ write_ended core n k broken
+ended_after core x0 x1 n k c w broken found chunk e0 e1 =
+    e1 ∙ ap (λ (x : Core). dropped x n k) (e0 ∙ ap (set_bits core n) (bits_are_ended core n c w broken chunk ∙ ap (λ (o : Option LiveWrite). bitmap_ended core n o broken) (sym found)))
+
+abbrev done_at : Core → ℕ → ℕ → ℕ → Core
+done_at core n k l = record core { writes = with_at core.writes n (done_in k l (core.writes n)) }
+
+started_done : (core : Core) (n k l : ℕ) → done_at (start_write core n k) n k l ≡ record core { writes = with_at core.writes n (done_in k l (start_in k (core.writes n))) }
+started_done core n k l = ap (λ (x : ℕ → List LiveWrite). record core { writes = x }) (then_at core.writes _ _ n (start_in k (core.writes n)) (done_in k l) refl refl)
+
+head_known : (core : Core) (n k l s : ℕ) → write_sector (write_in k (core.writes n)) ≡ Some s
+    → headed (record core { writes = with_at core.writes n (done_in k l (start_in k (core.writes n))) }) n l (Some s) ≡ out_done core n k l
+head_known core n k l s is =
+    let f : Core → Core = λ x. record x { writes = with_at core.writes n (done_in k l (start_in k (core.writes n))) } in
+    ap (λ (o : Option ℕ). f (headed core n l o)) (sym is)
+
+pub out_after : (core x0 x1 x2 : Core) (n k l s : ℕ) → write_sector (write_in k (core.writes n)) ≡ Some s → x0 ≡ start_write core n k → x1 ≡ done_at x0 n k l → x2 ≡ headed x1 n l (Some s) → x2 ≡ out_done core n k l
+out_after core x0 x1 x2 n k l s is e0 e1 e2 =
+    let both : x1 ≡ record core { writes = with_at core.writes n (done_in k l (start_in k (core.writes n))) } = e1 ∙ ap (λ (x : Core). done_at x n k l) e0 ∙ started_done core n k l in
+    e2 ∙ ap (λ (x : Core). headed x n l (Some s)) both ∙ head_known core n k l s is
+
+pub in_after : (core x0 x1 : Core) (n k l s : ℕ) → read_sector (read_in k (core.reads n)) ≡ Some s → x0 ≡ end_read core n k → x1 ≡ headed x0 n l (Some s) → x1 ≡ in_done core n k l
+in_after core x0 x1 n k l s is e0 e1 = e1 ∙ ap (λ (x : Core). headed x n l (Some s)) e0 ∙ ap (headed (end_read core n k) n l) (sym is)

@@ -1,5 +1,5 @@
 // Rows of reads.
-ghost use Rattle.std.specs.Prelude.{◌≡◌, ◌<◌, None};
+ghost use Rattle.std.specs.Prelude.{◌≡◌, ◌<◌, None, get_or};
 ghost use Rattle.read_balance.specs.Choice.{chosen_leg};
 ghost use Rattle.mdc_types.specs.Geometry.{nodes_of};
 ghost use Rattle.leg_failure.specs.Views.{works};
@@ -23,6 +23,14 @@ fn reads_first(core: &CoreState, n: NodeId, s: SectorNo) -> bool
     core.suspended[n as usize].covers(s).is_some() || core.members.first_pending().is_some()
 }
 
+// Where each leg's head stands.
+fn heads(core: &CoreState, n: NodeId) -> [u32; 8]
+    requires { n < nodes_of core.now.identity.geometry }
+    ensures { (λ l. get_or result l 0) ≡ (core_of core.now).head n }
+{
+    core.heads[n as usize]
+}
+
 // The leg that a new read of the sector is given, if one works.
 fn chosen_leg(core: &CoreState, n: NodeId, s: SectorNo) -> Option<LegId>
     requires { n < nodes_of core.now.identity.geometry }
@@ -30,7 +38,7 @@ fn chosen_leg(core: &CoreState, n: NodeId, s: SectorNo) -> Option<LegId>
         (reads_first (core_of core.now) n s) }
 {
     let working = core.view(n).working();
-    choose(working, &core.heads[n as usize], s, reads_first(core, n, s))
+    choose(working, &heads(core, n), s, reads_first(core, n, s))
 }
 
 /// A new read of the sector.

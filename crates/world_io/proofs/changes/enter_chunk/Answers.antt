@@ -1,3 +1,4 @@
+use Rattle.world_state.specs.contracts.state.CoreState.{the_view}
 use Rattle.std.proofs.Common.{◌<◌, ◌∙◌, ap, sym, subst}
 use Rattle.node_bits.specs.Bitmaps.{bitmaps_of}
 use Rattle.world_state.specs.Kept.{Kept}
@@ -10,4 +11,4 @@ enter-requires-clause-room c =
     rw same c.requires.room
 
 pub returns : goal.returns
-returns c = rw (← c.core.view_is) (entered_are _ _ _ c.args.n c.args.c c.set.ensures.bits c.enter.ensures.bits)
+returns c = rw (← c.core.view_is) (entered_are (the_view c.core.inside) c.set.new.self c.enter.new.self c.args.n c.args.c c.set.ensures.bits c.enter.ensures.bits)
