@@ -1,8 +1,8 @@
 -- The core after a change of the requests, or of the bitmaps.
-use Rattle.std.proofs.Common.{◌≡◌, ℕ, ◌+◌, ◌==◌, List, [], ◌∷◌, ◌++◌, Option, Some, None, refl, ap, sym, ◌∙◌, arith, Bool, true, false, if◌then◌else◌}
+use Rattle.std.proofs.Common.{◌≡◌, ℕ, ◌+◌, ◌==◌, List, [], ◌∷◌, ◌++◌, Option, Some, None, IsSome, refl, ap, sym, subst, ◌∙◌, arith, Bool, true, false, if◌then◌else◌}
 use Rattle.mdc_types.specs.Geometry.{chunk_of}
 use Rattle.mdc_types.specs.declared.numbers.Sector.{Sector}
-use Rattle.mirror_io.specs.Flight.{write_in, read_in, without_write, new_write, start_in, done_in}
+use Rattle.mirror_io.specs.Flight.{write_in, read_in, without_write, new_write, start_in, done_in, started}
 use Rattle.cluster_model.specs.Changes.{headed}
 use Rattle.cluster_model.specs.Reads.{end_read, in_done, read_sector}
 use Rattle.cluster_model.specs.Writes.{ask_write, start_write, out_done, write_ended, write_sector, bitmap_ended}
@@ -123,3 +123,32 @@ out_after core x0 x1 x2 n k l s is e0 e1 e2 =
 
 pub in_after : (core x0 x1 : Core) (n k l s : ℕ) → read_sector (read_in k (core.reads n)) ≡ Some s → x0 ≡ end_read core n k → x1 ≡ headed x0 n l (Some s) → x1 ≡ in_done core n k l
 in_after core x0 x1 n k l s is e0 e1 = e1 ∙ ap (λ (x : Core). headed x n l (Some s)) e0 ∙ ap (headed (end_read core n k) n l) (sym is)
+
+-- A write that has started is still live.
+
+at_same : {A : Type 0} (f : ℕ → A) (n : ℕ) (a : A) → with_at f n a n ≡ a
+at_same f n a = grind (arith, nat_tests)
+
+started_some : (k : ℕ) (ws : List LiveWrite) → IsSome (write_in k ws) → IsSome (write_in k (start_in k ws))
+started_some k [] live = live
+started_some k (w ∷ ws) live = grind (arith, started_some k ws)
+
+pub live_started : (core : Core) (n k : ℕ) → IsSome (write_in k (core.writes n)) → IsSome (write_in k ((start_write core n k).writes n))
+live_started core n k live = subst (λ (ws : List LiveWrite). IsSome (write_in k ws)) (sym (at_same core.writes n (start_in k (core.writes n)))) (started_some k (core.writes n) live)
+
+started_found : (k : ℕ) (ws : List LiveWrite) (w : LiveWrite) → write_in k ws ≡ Some w → write_in k (start_in k ws) ≡ Some (started w)
+started_found k [] w found = cc
+started_found k (x ∷ ws) w found = grind (arith, nat_tests, started_found k ws w)
+
+found_started : (core : Core) (n k : ℕ) (w : LiveWrite) → write_in k (core.writes n) ≡ Some w → write_in k ((start_write core n k).writes n) ≡ Some (started w)
+found_started core n k w found = ap (write_in k) (at_same core.writes n (start_in k (core.writes n))) ∙ started_found k (core.writes n) w found
+
+io_by : (core y0 x0 x1 : Core) (n k c : ℕ) (o : Option LiveWrite) → write_in k (core.writes n) ≡ o → IsSome o → ((w : LiveWrite) → write_in k (core.writes n) ≡ Some w → c ≡ chunk_of (sizes core) w.sector)
+    → y0 ≡ start_write core n k → x0 ≡ set_bits y0 n (bits_ended true (y0.bitmap n) c) → x1 ≡ dropped x0 n k → x1 ≡ write_ended (start_write core n k) n k true
+io_by core y0 x0 x1 n k c None is live chunk e e0 e1 = cc
+io_by core y0 x0 x1 n k c (Some w) is live chunk e e0 e1 =
+    ended_after (start_write core n k) x0 x1 n k c (started w) true (found_started core n k w is) (chunk w is) (e0 ∙ ap (λ (y : Core). set_bits y n (bits_ended true (y.bitmap n) c)) e) e1
+
+pub io_after : (core y0 x0 x1 : Core) (n k c : ℕ) → IsSome (write_in k (core.writes n)) → ((w : LiveWrite) → write_in k (core.writes n) ≡ Some w → c ≡ chunk_of (sizes core) w.sector)
+    → y0 ≡ start_write core n k → x0 ≡ set_bits y0 n (bits_ended true (y0.bitmap n) c) → x1 ≡ dropped x0 n k → x1 ≡ write_ended (start_write core n k) n k true
+io_after core y0 x0 x1 n k c live chunk e e0 e1 = io_by core y0 x0 x1 n k c (write_in k (core.writes n)) refl live chunk e e0 e1

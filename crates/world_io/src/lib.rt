@@ -13,6 +13,6 @@ pub use guards::{
     may_ask_read, may_ask_write, may_break_write, may_clear, may_end_write, may_in, may_out,
     may_write_page,
 };
-pub use bits::clear;
-pub use reads::ask_read;
-pub use writes::{ask_write, break_write, end_write};
+pub use bits::{clear, write_page};
+pub use reads::{ask_read, read_in};
+pub use writes::{ask_write, break_write, end_write, out_write};
