@@ -1,6 +1,7 @@
 -- What a transfer of a request, and what became of the core, make of its event.
-use Rattle.std.proofs.Common.{◌≡◌, ℕ, ◌<◌, Bool, true, false, List, map, length, get_or, Option, Some, None, refl, ap, sym, ◌∙◌, subst, arith, length-map, if◌then◌else◌}
+use Rattle.std.proofs.Common.{◌≡◌, ℕ, ◌<◌, Bool, true, false, List, map, length, get_or, Option, Some, None, refl, ap, sym, ◌∙◌, subst, arith, if◌then◌else◌}
 use Rattle.std.specs.Prelude.{is_some, nat_le, ◌≤◌, ◌+◌, ◌-◌, Ok, Err}
+use Rattle.std.proofs.lemmas.List.{length-map}
 use Rattle.std.proofs.lemmas.Bool.Decides.{nat_tests}
 use Rattle.dlm_modes.specs.First.{first_such}
 use Rattle.dlm_modes.proofs.FirstLaws.{first_such_some}
@@ -11,6 +12,7 @@ use Rattle.mdc_types.specs.declared.outcomes.Outcome.{Outcome}
 use Rattle.mdc_types.specs.declared.outcomes.Outcome.TheVariants.{Done, Lost, Io, Value}
 use Rattle.mdc_types.specs.declared.roles.NodeState.{NodeState}
 use Rattle.mdc_types.specs.declared.roles.NodeState.TheVariants as states
+use Rattle.mdc_types.specs.declared.events.Event.{Event}
 use Rattle.mdc_types.specs.declared.events.Event.TheVariants.{WritePage, Out, In}
 use Rattle.mirror_io.specs.declared.live.LiveWrite.{LiveWrite}
 use Rattle.mirror_io.specs.declared.live.LiveRead.{LiveRead}
@@ -38,6 +40,9 @@ use Rattle.world_state.proofs.Carrying.{sent, not_sent, got, not_got}
 pub leg_is_there : {L : Type 0} (size : L → ℕ) (legs : List L) (g : Sizes) (t : Transfer) → IsOnLeg g t → Fits g (map size legs) → t.leg < length legs
 leg_is_there size legs g t on fits = omega (arith, on.leg, fits.count, length-map legs size)
 
+pub leg_below : (core : Core) (e : Event) (t : Transfer) → Ready core → refusal core e ≡ None → transfer_of core e ≡ Some t → t.leg < 8
+leg_below core e t ready ok is = omega (arith, (ready.on_legs e t ok is).leg, ready.range.legs.sizes_fit.legs.1)
+
 pub place_is_there : {L : Type 0} (size : L → ℕ) (legs : List L) (g : Sizes) (t : Transfer) → IsOnLeg g t → Fits g (map size legs) → t.place < get_or (map size legs) t.leg 0
 place_is_there size legs g t on fits = rw (fits.each t.leg on.leg) on.place
 
@@ -53,7 +58,7 @@ page_of_slot core p ready lt = omega (arith, pages_few (sizes core).second (chun
 abbrev failed_as : Bool → ℕ → Outcome
 failed_as b l = if b then Io l else Lost l
 
-abbrev out_transferred : Core → ℕ → ℕ → LiveWrite → Transfer
+abbrev pub out_transferred : Core → ℕ → ℕ → LiveWrite → Transfer
 out_transferred core n l w = writes_to n l (place_of core w.sector) w.value
 
 pub out_is : (core : Core) (n k l : ℕ) (w : LiveWrite) → write_in k (core.writes n) ≡ Some w → transfer_of core (Out n k l) ≡ Some (out_transferred core n l w)
@@ -81,7 +86,7 @@ module _ (old new : Kept) (before now : LegsSeen) (n k l at : ℕ) (w : LiveWrit
 
 -- A page.
 
-abbrev page_transferred : Core → ℕ → ℕ → ℕ → Transfer
+abbrev pub page_transferred : Core → ℕ → ℕ → ℕ → Transfer
 page_transferred core n p l = writes_to n l (page_sector (sizes core) n p) (page_sector_of core p (core.bitmap n).set)
 
 page_missed_after : (core x : Core) (n p l : ℕ) (o : Outcome) (b : Bool) → o ≡ failed_as b l

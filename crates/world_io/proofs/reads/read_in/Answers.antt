@@ -1,47 +1,51 @@
-use Rattle.std.proofs.Common.{rules, ◌≡◌, ◌<◌, None, Some, IsSome, get_or, map, if◌then◌else◌, ℕ, ◌+◌, ◌-◌, ◌*◌, ◌≤◌, length, ◌/◌, ◌%◌, Bool, true, false, nat_eq, nat_lt, List, [], ◌∷◌, ◌++◌, slice_set, bit_and, bit_or, w8, w32, w64, Bor, MutBor}
-use Rattle.read_balance.specs.Choice.{chosen_leg, nearest_leg}
-use Rattle.mdc_types.specs.Geometry.{nodes_of}
-use Rattle.leg_failure.specs.Views.{works, is_last}
-use Rattle.cluster_model.specs.After.{after}
-use Rattle.mirror_io.specs.Flight.{read_in}
-use Rattle.cluster_model.specs.Failures.{leg_lost}
+use Rattle.std.proofs.Common.{◌<◌, ◌≤◌, arith}
+use Rattle.mdc_types.specs.declared.events.Event.TheVariants.{In}
 use Rattle.cluster_model.specs.State.{sizes}
-use Rattle.cluster_model.specs.Outcomes.{outcome_of}
-use Rattle.cluster_model.specs.Reads.{reads_first, read_leg, read_sector, end_read, in_done}
-use Rattle.cluster_model.specs.Table.{refusal}
+use Rattle.laws_sound.specs.Laws.{IsOnLeg}
 use Rattle.world_state.specs.Kept.{core_of}
-use Rattle.world_state.specs.Told.{Carries, Fits, seen_of}
-use Rattle.world_state.specs.Ready.{Ready}
+use Rattle.world_io.proofs.Telling.{in_at}
+use Rattle.world_io.proofs.Transferring.{in_transferred, in_is, leg_is_there, leg_below, place_is_there, in_got, in_not_got}
 use Rattle.world_io.proofs.reads.read_in.Goals as goal
 
--- src/reads.rt:138:9
 pub place_of-at-requires-clause-sector : goal.place_of-at-requires-clause-sector
-place_of-at-requires-clause-sector g c = ?
+place_of-at-requires-clause-sector g c =
+    (in_at (core_of c.args.core.now) c.args.n c.args.k c.requires.ready c.requires.accepted).sector c.live_read-r.result c.live_read-r.ensures
 
--- src/reads.rt:139:11
 pub receive-requires-clause-leg : goal.receive-requires-clause-leg
-receive-requires-clause-leg g c = ?
+receive-requires-clause-leg g c =
+    leg_below (core_of c.args.core.now) (In c.args.n c.args.k) (in_transferred (core_of c.args.core.now) c.args.n c.leg_for-l.result c.live_read-r.result) c.requires.ready c.requires.accepted
+    (in_is (core_of c.args.core.now) c.args.n c.args.k c.leg_for-l.result c.live_read-r.result c.live_read-r.ensures c.leg_for-l.ensures)
 
--- src/reads.rt:139:11
 pub receive-requires-clause-there : goal.receive-requires-clause-there
-receive-requires-clause-there g c = ?
+receive-requires-clause-there g c =
+    let core = core_of c.args.core.now in
+    let on : IsOnLeg (sizes core) (in_transferred core c.args.n c.leg_for-l.result c.live_read-r.result) =
+    c.requires.ready.on_legs (In c.args.n c.args.k) _ c.requires.accepted (in_is core c.args.n c.args.k c.leg_for-l.result c.live_read-r.result c.live_read-r.ensures c.leg_for-l.ensures) in
+    leg_is_there g.L.LegDev.size c.args.legs.now.items (sizes core) _ on c.requires.fits
 
--- src/reads.rt:139:11
 pub receive-requires-clause-within : goal.receive-requires-clause-within
-receive-requires-clause-within g c = ?
+receive-requires-clause-within g c =
+    let core = core_of c.args.core.now in
+    let on : IsOnLeg (sizes core) (in_transferred core c.args.n c.leg_for-l.result c.live_read-r.result) =
+    c.requires.ready.on_legs (In c.args.n c.args.k) _ c.requires.accepted (in_is core c.args.n c.args.k c.leg_for-l.result c.live_read-r.result c.live_read-r.ensures c.leg_for-l.ensures) in
+    rw c.place_of-at.ensures (place_is_there g.L.LegDev.size c.args.legs.now.items (sizes core) _ on c.requires.fits)
 
--- src/reads.rt:141:13
 pub in_done-requires-clause-leg : goal.in_done-requires-clause-leg
-in_done-requires-clause-leg g c = ?
+in_done-requires-clause-leg g c =
+    leg_below (core_of c.args.core.now) (In c.args.n c.args.k) (in_transferred (core_of c.args.core.now) c.args.n c.leg_for-l.result c.live_read-r.result) c.requires.ready c.requires.accepted
+    (in_is (core_of c.args.core.now) c.args.n c.args.k c.leg_for-l.result c.live_read-r.result c.live_read-r.ensures c.leg_for-l.ensures)
 
--- src/reads.rt:144:19
 pub in_failed-requires-clause-leg : goal.in_failed-requires-clause-leg
-in_failed-requires-clause-leg g c = ?
+in_failed-requires-clause-leg g c =
+    leg_below (core_of c.args.core.now) (In c.args.n c.args.k) (in_transferred (core_of c.args.core.now) c.args.n c.leg_for-l.result c.live_read-r.result) c.requires.ready c.requires.accepted
+    (in_is (core_of c.args.core.now) c.args.n c.args.k c.leg_for-l.result c.live_read-r.result c.live_read-r.ensures c.leg_for-l.ensures)
 
--- src/reads.rt:128:1
 pub returns-in-Ok : goal.returns-in-Ok
-returns-in-Ok g c = ?
+returns-in-Ok g c = record {
+  carried = in_got c.args.core.now c.in_done.new.core _ _ c.args.n c.args.k c.leg_for-l.result c.place_of-at.result c.live_read-r.result c.requires.accepted c.live_read-r.ensures c.leg_for-l.ensures c.place_of-at.ensures c.in-Ok.value c.in-Ok.ensures c.in_done.ensures;
+}
 
--- src/reads.rt:128:1
 pub returns-in-Err : goal.returns-in-Err
-returns-in-Err g c = ?
+returns-in-Err g c = record {
+  carried = in_not_got c.args.core.now c.in_failed.new.core _ _ c.args.n c.args.k c.leg_for-l.result c.place_of-at.result c.live_read-r.result c.requires.accepted c.live_read-r.ensures c.leg_for-l.ensures c.place_of-at.ensures c.in_failed.result c.in-Err.field-0 c.in-Err.ensures c.in_failed.ensures.failure c.in_failed.ensures.after;
+}

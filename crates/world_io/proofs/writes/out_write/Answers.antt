@@ -1,35 +1,36 @@
-use Rattle.std.proofs.Common.{rules, ◌≡◌, ◌<◌, None, Some, true, false, IsSome, map, if◌then◌else◌, ℕ, ◌+◌, ◌-◌, ◌*◌, ◌≤◌, length, ◌/◌, ◌%◌, Bool, nat_eq, nat_lt, List, [], ◌∷◌, ◌++◌, slice_index_or, slice_set, bit_and, bit_or, w8, w32, w64, Bor, MutBor}
-use Rattle.mdc_types.specs.Geometry.{chunk_of, chunks_of}
-use Rattle.mirror_io.specs.Flight.{write_in}
-use Rattle.mirror_io.specs.declared.live.LiveWrite.{LiveWrite}
-use Rattle.leg_failure.specs.Views.{is_last}
+use Rattle.std.specs.Prelude.{map}
+use Rattle.mdc_types.specs.declared.events.Event.TheVariants.{Out}
 use Rattle.cluster_model.specs.State.{sizes}
-use Rattle.cluster_model.specs.Failures.{leg_lost}
-use Rattle.cluster_model.specs.After.{after}
-use Rattle.cluster_model.specs.Outcomes.{outcome_of}
-use Rattle.cluster_model.specs.Table.{refusal}
-use Rattle.cluster_model.specs.Writes.{start_write, out_done, write_sector, write_ended}
+use Rattle.laws_sound.specs.Laws.{IsOnLeg}
 use Rattle.world_state.specs.Kept.{core_of}
-use Rattle.world_state.specs.Told.{Carries, Fits, seen_of}
-use Rattle.world_state.specs.Ready.{Ready}
+use Rattle.world_io.proofs.Telling.{out_at}
+use Rattle.world_io.proofs.Transferring.{out_transferred, out_is, leg_is_there, place_is_there, out_sent, out_not_sent}
 use Rattle.world_io.proofs.writes.out_write.Goals as goal
 
--- src/writes.rt:114:9
 pub place_of-at-requires-clause-sector : goal.place_of-at-requires-clause-sector
-place_of-at-requires-clause-sector g c = ?
+place_of-at-requires-clause-sector g c =
+    (out_at (core_of c.args.core.now) c.args.n c.args.k c.args.l c.requires.ready c.requires.accepted).write.sector c.live_write-w.result c.live_write-w.ensures
 
--- src/writes.rt:115:11
 pub send-requires-clause-there : goal.send-requires-clause-there
-send-requires-clause-there g c = ?
+send-requires-clause-there g c =
+    let core = core_of c.args.core.now in
+    let on : IsOnLeg (sizes core) (out_transferred core c.args.n c.args.l c.live_write-w.result) =
+    c.requires.ready.on_legs (Out c.args.n c.args.k c.args.l) _ c.requires.accepted (out_is core c.args.n c.args.k c.args.l c.live_write-w.result c.live_write-w.ensures) in
+    leg_is_there g.L.LegDev.size c.args.legs.now.items (sizes core) _ on c.requires.fits
 
--- src/writes.rt:115:11
 pub send-requires-clause-within : goal.send-requires-clause-within
-send-requires-clause-within g c = ?
+send-requires-clause-within g c =
+    let core = core_of c.args.core.now in
+    let on : IsOnLeg (sizes core) (out_transferred core c.args.n c.args.l c.live_write-w.result) =
+    c.requires.ready.on_legs (Out c.args.n c.args.k c.args.l) _ c.requires.accepted (out_is core c.args.n c.args.k c.args.l c.live_write-w.result c.live_write-w.ensures) in
+    rw c.place_of-at.ensures (place_is_there g.L.LegDev.size c.args.legs.now.items (sizes core) _ on c.requires.fits)
 
--- src/writes.rt:99:1
 pub returns-in-Ok : goal.returns-in-Ok
-returns-in-Ok g c = ?
+returns-in-Ok g c = record {
+  carried = out_sent c.args.core.now c.out_done.new.core _ _ c.args.n c.args.k c.args.l c.place_of-at.result c.live_write-w.result c.requires.accepted c.live_write-w.ensures c.place_of-at.ensures c.in-Ok.ensures c.out_done.ensures;
+}
 
--- src/writes.rt:99:1
 pub returns-in-Err : goal.returns-in-Err
-returns-in-Err g c = ?
+returns-in-Err g c = record {
+  carried = out_not_sent c.args.core.now c.out_failed.new.core _ _ c.args.n c.args.k c.args.l c.place_of-at.result c.live_write-w.result c.requires.accepted c.live_write-w.ensures c.place_of-at.ensures c.out_failed.result c.in-Err.ensures c.out_failed.ensures.failure c.out_failed.ensures.after;
+}
