@@ -1,5 +1,5 @@
 -- What an accepted event of a request tells, in a state that a run reached.
-use Rattle.std.proofs.Common.{◌≡◌, ◌⊎◌, inl, inr, ℕ, zero, suc, ◌+◌, ◌-◌, ◌^◌, ◌<◌, ◌≤◌, ◌==◌, Bool, true, false, not, List, [], ◌∷◌, length, Option, Some, None, IsSome, refl, ap, sym, ◌∙◌, subst, arith, if◌then◌else◌}
+use Rattle.std.proofs.Common.{◌≡◌, ◌⊎◌, inl, inr, ℕ, zero, suc, ◌+◌, ◌<◌, ◌≤◌, Bool, true, false, List, [], ◌∷◌, length, Option, Some, None, IsSome, refl, ap, arith}
 use Rattle.std.specs.Prelude.{is_some, nat_lt}
 use Rattle.std.proofs.lemmas.Bool.Decides.{nat_tests}
 use Rattle.dlm_modes.specs.First.{first_such}
@@ -15,18 +15,15 @@ use Rattle.mdc_types.specs.declared.events.Event.TheVariants.{AskWrite, WritePag
 use Rattle.mirror_io.specs.declared.live.LiveWrite.{LiveWrite}
 use Rattle.mirror_io.specs.declared.live.LiveRead.{LiveRead}
 use Rattle.mirror_io.specs.Flight.{write_in, read_in}
-use Rattle.leg_failure.specs.Views.{is_target}
 use Rattle.suspend_ranges.specs.Suspended.{covering}
 use Rattle.resync_worker.proofs.SectorLaws.{chunk_of-lt}
 use Rattle.cluster_model.specs.State.{Core, sizes}
-use Rattle.cluster_model.specs.Bits.{bit_guards, clear_guards}
 use Rattle.cluster_model.specs.Guards.{refused_by, found_or, of_live, no_node, no_leg, no_page, is_out}
 use Rattle.cluster_model.specs.Phases.{needs_up, is_up}
-use Rattle.cluster_model.specs.Reads.{in_guards, r_guards}
 use Rattle.cluster_model.specs.Table.{refusal}
 use Rattle.cluster_model.specs.Writes.{not_leaving, no_sector, no_write, writer_of, any_of_sector, full}
 use Rattle.laws_sound.specs.Requests.{writes_in}
-use Rattle.laws_sound.proofs.Guarded.{first_none, unless_none, refused_none, found_none, living}
+use Rattle.laws_sound.proofs.Guarded.{first_none, unless_none, refused_none, living}
 use Rattle.laws_sound.proofs.RequestSteps.{chunk_some, some_live}
 use Rattle.world_state.specs.Ready.{Ready}
 

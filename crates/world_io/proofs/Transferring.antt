@@ -2,10 +2,9 @@
 use Rattle.std.proofs.Common.{◌≡◌, ℕ, ◌<◌, Bool, true, false, List, map, length, get_or, Option, Some, None, refl, ap, sym, ◌∙◌, subst, arith, if◌then◌else◌}
 use Rattle.std.specs.Prelude.{is_some, nat_le, ◌≤◌, ◌+◌, ◌-◌, Ok, Err}
 use Rattle.std.proofs.lemmas.List.{length-map}
-use Rattle.std.proofs.lemmas.Bool.Decides.{nat_tests}
 use Rattle.dlm_modes.specs.First.{first_such}
 use Rattle.dlm_modes.proofs.FirstLaws.{first_such_some}
-use Rattle.mdc_types.specs.Geometry.{Sizes, IsGeometry, chunks_of, pages_of, slot_pages, parts_of, page_sector}
+use Rattle.mdc_types.specs.Geometry.{Sizes, chunks_of, pages_of, slot_pages, parts_of, page_sector}
 use Rattle.mdc_types.specs.declared.failed.Failed.{Failed}
 use Rattle.mdc_types.specs.declared.numbers.Sector.{Sector}
 use Rattle.mdc_types.specs.declared.outcomes.Outcome.{Outcome}

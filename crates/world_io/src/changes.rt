@@ -141,7 +141,8 @@ pub fn enter_chunk(core: &mut CoreState, n: NodeId, c: ChunkNo)
     requires chunk { c < chunks_of (sizes (core_of core.old)) }
     requires room { ((core_of core.old).bitmap n).writes c < 16 }
     ensures { core_of core.new ≡ record (core_of core.old) {
-      bitmap = with_at (core_of core.old).bitmap n (entered (with_set ((core_of core.old).bitmap n) c true) c);
+      bitmap = with_at (core_of core.old).bitmap n
+          (entered (with_set ((core_of core.old).bitmap n) c true) c);
     } }
 {
     core.bitmaps.set(n, c);
@@ -167,7 +168,8 @@ pub fn break_chunk(core: &mut CoreState, n: NodeId, c: ChunkNo)
     requires chunk { c < chunks_of (sizes (core_of core.old)) }
     requires live { 0 < ((core_of core.old).bitmap n).writes c }
     ensures { core_of core.new ≡ record (core_of core.old) {
-      bitmap = with_at (core_of core.old).bitmap n (with_need (exited ((core_of core.old).bitmap n) c) c true);
+      bitmap = with_at (core_of core.old).bitmap n
+          (with_need (exited ((core_of core.old).bitmap n) c) c true);
     } }
 {
     core.bitmaps.exit(n, c);
@@ -184,7 +186,8 @@ pub fn begin_write(core: &mut CoreState, n: NodeId, s: SectorNo, v: &Sector) -> 
     ensures number { result ≡ (core_of core.old).writes_made n }
     ensures asked { core_of core.new ≡ record (core_of core.old) {
       writes = with_at (core_of core.old).writes n
-          ((core_of core.old).writes n ++ new_write ((core_of core.old).writes_made n) s v.now ∷ []);
+          ((core_of core.old).writes n
+          ++ new_write ((core_of core.old).writes_made n) s v.now ∷ []);
       writes_made = with_at (core_of core.old).writes_made n ((core_of core.old).writes_made n + 1);
     } }
 {

@@ -47,7 +47,8 @@ fn check_sector(core: &CoreState, n: NodeId, s: SectorNo) -> Result<(), Refusal>
 // The sector is in no range in which the node's writes wait.
 fn check_unsuspended(core: &CoreState, n: NodeId, s: SectorNo) -> Result<(), Refusal>
     requires { n < nodes_of core.now.identity.geometry }
-    ensures { Judges result (refused_by Refusal.Suspended (covering ((core_of core.now).suspended n) s)) }
+    ensures { Judges result
+        (refused_by Refusal.Suspended (covering ((core_of core.now).suspended n) s)) }
 {
     match core.suspended[n as usize].covers(s) {
         None => Ok(()),
@@ -108,7 +109,8 @@ fn check_read(core: &CoreState, n: NodeId, k: ReadNo) -> Result<(), Refusal>
 fn unwritten_target(core: &CoreState, n: NodeId, k: WriteNo) -> Option<LegId>
     requires node { n < nodes_of core.now.identity.geometry }
     requires live { IsSome (write_in k ((core_of core.now).writes n)) }
-    ensures { result ≡ unwritten_target (core_of core.now) n (write_in k ((core_of core.now).writes n)) }
+    ensures { result ≡
+        unwritten_target (core_of core.now) n (write_in k ((core_of core.now).writes n)) }
 {
     core.requests.missing(n, k, core.view(n).targets())
 }
@@ -130,7 +132,8 @@ fn check_written(core: &CoreState, n: NodeId, k: WriteNo) -> Result<(), Refusal>
 fn unmarked_leg(core: &CoreState, n: NodeId, k: WriteNo) -> Option<LegId>
     requires node { n < nodes_of core.now.identity.geometry }
     requires ready { Ready (core_of core.now) }
-    ensures { result ≡ unmarked_leg (core_of core.now) n (write_in k ((core_of core.now).writes n)) }
+    ensures { result ≡
+        unmarked_leg (core_of core.now) n (write_in k ((core_of core.now).writes n)) }
 {
     let s = core.requests.write(n, k)?.sector;
     let c = core.identity.geometry.chunk_of(s);
@@ -157,7 +160,10 @@ fn check_drained(core: &CoreState, n: NodeId, c: ChunkNo) -> Result<(), Refusal>
     ensures { Judges result (draining_in (core_of core.now) n
         (chunk_start core.now.identity.geometry c) (chunk_end core.now.identity.geometry c)) }
 {
-    match core.requests.drain(n, core.identity.geometry.chunk_range(c)) {
+    match core
+        .requests
+        .drain(n, core.identity.geometry.chunk_range(c))
+    {
         None => Ok(()),
         Some(k) => Err(Refusal::Draining(k)),
     }
@@ -171,7 +177,8 @@ fn is_degraded(role: Role) -> bool
 
 // The least leg that is faulty or rebuilding.
 fn degraded_leg(roles: &Roles) -> Option<LegId>
-    ensures { result ≡ first_such (λ l. is_faulty (role_of roles.now l) || is_rebuilding (role_of roles.now l)) 0 8 }
+    ensures { result ≡ first_such
+        (λ l. is_faulty (role_of roles.now l) || is_rebuilding (role_of roles.now l)) 0 8 }
 {
     for l in 0..8 {
         if is_degraded(roles.of(l)) {
@@ -192,7 +199,8 @@ fn lacking_leg(core: &CoreState, n: NodeId) -> Option<LegId>
 // No leg is faulty or rebuilding.
 fn check_whole(core: &CoreState, n: NodeId) -> Result<(), Refusal>
     requires { n < nodes_of core.now.identity.geometry }
-    ensures { Judges result (refused_by Refusal.Degraded (first_such (is_degraded ((core_of core.now).view n)) 0 8)) }
+    ensures { Judges result (refused_by Refusal.Degraded
+        (first_such (is_degraded ((core_of core.now).view n)) 0 8)) }
 {
     match lacking_leg(core, n) {
         None => Ok(()),
@@ -201,7 +209,8 @@ fn check_whole(core: &CoreState, n: NodeId) -> Result<(), Refusal>
 }
 
 fn check_chunk(core: &CoreState, c: ChunkNo) -> Result<(), Refusal>
-    ensures { Judges result (unless (nat_lt c (chunks_of core.now.identity.geometry)) (Refusal.NoChunk c)) }
+    ensures { Judges result
+        (unless (nat_lt c (chunks_of core.now.identity.geometry)) (Refusal.NoChunk c)) }
 {
     check(c < core.identity.geometry.chunks(), Refusal::NoChunk(c))
 }
@@ -219,7 +228,8 @@ fn check_set(core: &CoreState, n: NodeId, c: ChunkNo) -> Result<(), Refusal>
 fn check_settled(core: &CoreState, n: NodeId, c: ChunkNo) -> Result<(), Refusal>
     requires node { n < nodes_of core.now.identity.geometry }
     requires chunk { c < chunks_of core.now.identity.geometry }
-    ensures { Judges result (unless (not (((core_of core.now).bitmap n).need c)) (Refusal.Needed c)) }
+    ensures { Judges result
+        (unless (not (((core_of core.now).bitmap n).need c)) (Refusal.Needed c)) }
 {
     check(!core.bitmaps.needs(n, c), Refusal::Needed(c))
 }

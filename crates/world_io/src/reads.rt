@@ -59,7 +59,8 @@ fn works(core: &CoreState, n: NodeId, l: LegId) -> bool
 // The leg that works and whose head is nearest to the sector.
 fn nearest_leg(core: &CoreState, n: NodeId, s: SectorNo) -> Option<LegId>
     requires { n < nodes_of core.now.identity.geometry }
-    ensures { result ≡ nearest_leg (works ((core_of core.now).view n)) ((core_of core.now).head n) s }
+    ensures { result ≡
+        nearest_leg (works ((core_of core.now).view n)) ((core_of core.now).head n) s }
 {
     let working = core.view(n).working();
     choose(working, &heads(core, n), s, false)

@@ -1,5 +1,5 @@
 use Rattle.world_state.specs.contracts.state.CoreState.{the_view}
-use Rattle.std.proofs.Common.{◌<◌, ◌∙◌, ap, sym, subst}
+use Rattle.std.proofs.Common.{◌∙◌, ap}
 use Rattle.node_bits.specs.Bitmaps.{bitmaps_of}
 use Rattle.world_state.specs.Kept.{Kept}
 use Rattle.world_io.proofs.Changing.{same_counts, entered_are}

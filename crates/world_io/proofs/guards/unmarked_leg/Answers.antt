@@ -1,4 +1,4 @@
-use Rattle.std.proofs.Common.{◌≡◌, ◌<◌, ◌∙◌, sym, ap, subst, Option, Some}
+use Rattle.std.proofs.Common.{◌≡◌, ◌<◌, ◌∙◌, sym, ap, subst, Some}
 use Rattle.mdc_types.specs.Geometry.{chunk_of, chunks_of}
 use Rattle.mdc_types.specs.Bits.{has_bit}
 use Rattle.mirror_io.specs.Flight.{write_in}

@@ -1,7 +1,7 @@
 use Rattle.std.proofs.Common.{◌∙◌, ap, ℕ, Bool}
 use Rattle.std.specs.Prelude.{get_or}
 use Rattle.std.proofs.Math.Path.{fun_ext}
-use Rattle.leg_failure.specs.Views.{NodeView, works}
+use Rattle.leg_failure.specs.Views.{works}
 use Rattle.read_balance.specs.Choice.{chosen_leg}
 use Rattle.world_state.specs.Kept.{core_of}
 use Rattle.world_io.proofs.reads.chosen_leg.Goals as goal

@@ -1,4 +1,3 @@
-use Rattle.std.proofs.Common.{◌<◌, ◌≤◌, arith}
 use Rattle.mdc_types.specs.declared.events.Event.TheVariants.{In}
 use Rattle.cluster_model.specs.State.{sizes}
 use Rattle.laws_sound.specs.Laws.{IsOnLeg}

@@ -5,7 +5,7 @@ use Rattle.mdc_types.specs.declared.outcomes.Outcome.TheVariants.{Write}
 use Rattle.cluster_model.specs.State.{Core}
 use Rattle.cluster_model.specs.Writes.{any_of_sector}
 use Rattle.world_state.specs.Kept.{core_of}
-use Rattle.world_io.proofs.Telling.{AskWriteAt, ask_write_at}
+use Rattle.world_io.proofs.Telling.{ask_write_at}
 use Rattle.world_io.proofs.Changing.{ask_write_after}
 use Rattle.world_io.proofs.writes.ask_write.Goals as goal
 

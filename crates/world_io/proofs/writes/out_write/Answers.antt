@@ -1,4 +1,3 @@
-use Rattle.std.specs.Prelude.{map}
 use Rattle.mdc_types.specs.declared.events.Event.TheVariants.{Out}
 use Rattle.cluster_model.specs.State.{sizes}
 use Rattle.laws_sound.specs.Laws.{IsOnLeg}
