@@ -1,0 +1,167 @@
+-- Who is granted a lock, and that it is told.
+use Rattle.std.proofs.Common.{◌≡◌, ◌⊎◌, inl, inr, ◌<◌, ◌≤◌, ℕ, Bool, true, false, List, [], ◌∷◌, Option, Some, None, refl, sym, ap, ◌∙◌, arith, ◌==◌}
+use Rattle.std.specs.Option.{option_map}
+use Rattle.std.proofs.lemmas.Bool.Decides.{nat_tests}
+use Rattle.dlm_modes.specs.declared.mode.Mode.{Mode}
+use Rattle.dlm_modes.specs.declared.mode.Mode.TheVariants.{NL, CR, CW, PR, PW, EX}
+use Rattle.dlm_space.specs.Locks.{Lock, blocker, grant_refusal, head_refusal}
+use Rattle.dlm_space.specs.Queues.{head, ask_for, asks_of}
+use Rattle.dlm_space.specs.declared.ask.Ask.{Ask}
+use Rattle.mdc_types.specs.Resources.{number_of}
+use Rattle.mdc_types.specs.declared.events.Event.TheVariants.{Grant}
+use Rattle.mdc_types.specs.declared.refusals.Refusal.TheVariants.{NothingAsked}
+use Rattle.mdc_types.specs.declared.resources.Res.{Res}
+use Rattle.mdc_types.specs.declared.resources.Res.TheVariants as resources
+use Rattle.mdc_types.specs.declared.roles.NodeState.{NodeState}
+use Rattle.mdc_types.specs.declared.roles.NodeState.TheVariants as states
+use Rattle.msg_rounds.specs.Phases.{Receiving, is_idle}
+use Rattle.msg_rounds.specs.Refusals.{is_sender_idle, token_granted_refusal, message_granted_refusal, ack_granted_refusal, pr_granted_refusal}
+use Rattle.msg_rounds.specs.declared.phases.SenderPhase.{SenderPhase}
+use Rattle.msg_rounds.specs.declared.phases.SenderPhase.TheVariants as senders
+use Rattle.msg_rounds.specs.declared.phases.ReceiverPhase.{ReceiverPhase}
+use Rattle.msg_rounds.specs.declared.phases.ReceiverPhase.TheVariants as receivers
+use Rattle.cluster_model.specs.State.{Core, NotAsked}
+use Rattle.cluster_model.specs.Changes.{resync_res, sender_now}
+use Rattle.cluster_model.specs.Guards.{found_or}
+use Rattle.cluster_model.specs.Granting.{asker, not_grantable, message_held}
+use Rattle.cluster_model.specs.Phases.{is_up}
+use Rattle.cluster_model.specs.Table.{refusal}
+use Rattle.laws_locks.specs.Rounded.{Rounded}
+use Rattle.laws_locks.specs.Others.{ResyncLock, turn_request}
+use Rattle.laws_locks.specs.Unblocked.{served, news_refusal, message_news}
+use Rattle.laws_locks.proofs.Guarded.{first_none, refused_none}
+use Rattle.world_state.specs.Ready.{Ready}
+
+abbrev pub seen : Ask → ℕ × Mode
+seen a = (a.node, a.mode)
+
+pub asked : (x : Option Ask) (n : ℕ) (mode : Mode) → option_map (λ a. (a.node, a.mode)) x ≡ Some (n, mode) → x ≡ Some (ask_for n mode)
+asked None n mode e = cc
+asked (Some a) n mode e =
+    let p : seen a ≡ (n, mode) = cc in
+    ap (λ (q : ℕ × Mode). Some (ask_for q.0 q.1)) p
+
+pub nobody : (x : Option Ask) → option_map (λ a. (a.node, a.mode)) x ≡ None → x ≡ None
+nobody None e = refl
+nobody (Some a) e = cc
+
+-- the guards of a grant whose asker is known
+pub record GrantAt (core : Core) (res : Res) (n : ℕ) (mode : Mode) : Type 0 where
+  pub is : asker core res ≡ Some (ask_for n mode)
+  pub may : grant_refusal (core.locks (number_of res)) ≡ None
+  pub told : news_refusal (served core.locks res) core res (ask_for n mode) ≡ None
+
+grantable : (lock : Lock) (n : ℕ) (mode : Mode) → not_grantable lock (Some (ask_for n mode)) ≡ None → head lock.conversions lock.requests ≡ Some (ask_for n mode) → grant_refusal lock ≡ None
+grantable lock n mode e h = rw (h, refused_none _ _ e) refl
+
+pub grant_at : (core : Core) (res : Res) (n : ℕ) (mode : Mode) → refusal core (Grant res) ≡ None → Ready core
+    → head (core.locks (number_of res)).conversions (core.locks (number_of res)).requests ≡ asker core res
+    → option_map (λ a. (a.node, a.mode)) (asker core res) ≡ Some (n, mode) → GrantAt core res n mode
+grant_at core res n mode ok ready h e =
+    let is : asker core res ≡ Some (ask_for n mode) = asked (asker core res) n mode e in
+    let a = first_none (found_or (asker core res) (NothingAsked res)) _ ok in
+    let b = first_none (not_grantable (core.locks (number_of res)) (asker core res)) [] a.1 in
+    record {
+      is = is;
+      may = grantable (core.locks (number_of res)) n mode (rw is at b.0) (h ∙ is);
+      told = ready.unblocked.told res (ask_for n mode) ok is;
+    }
+
+-- somebody waits
+pub some_asker : (core : Core) (res : Res) → refusal core (Grant res) ≡ None → option_map (λ a. (a.node, a.mode)) (asker core res) ≡ None → ⊥
+some_asker core res ok e =
+    let none = nobody (asker core res) e in
+    let a = first_none (found_or (asker core res) (NothingAsked res)) _ ok in
+    let b = rw none at a.0 in
+    cc
+
+-- Nodes below 16.
+
+lt_or : (n k : ℕ) → (n < k) ⊎ (k ≤ n)
+lt_or n k = grind (arith, nat_tests)
+
+sends : (locks : ℕ → Lock) (n : ℕ) (s : SenderPhase) → s ≡ senders.Idle → is_sender_idle s ≡ true
+sends locks n s e = rw e refl
+
+no_both : (b : Bool) → b ≡ true → b ≡ false → ⊥
+no_both b e f = grind arith
+
+pub sender_below : (core : Core) (n : ℕ) → Rounded core → is_sender_idle (core.sender n) ≡ false → n < 16
+sender_below core n r busy = elim (lt_or n 16) [
+  | inl lt ↦ lt
+  | inr far ↦ absurd (no_both _ (sends core.locks n (core.sender n) (r.phased.out n (r.numbered.beyond n far))) busy)
+]
+
+out_not_up : (s : NodeState) → s ≡ states.Out → is_up s ≡ false
+out_not_up s e = rw e refl
+
+idle_true : (r : ReceiverPhase) → r ≡ receivers.Idle → is_idle r ≡ true
+idle_true r e = rw e refl
+
+pub receiver_below : (core : Core) (n : ℕ) → Rounded core → is_idle (core.receiver n).phase ≡ false → n < 16
+receiver_below core n r busy = elim (lt_or n 16) [
+  | inl lt ↦ lt
+  | inr far ↦ absurd (no_both _ (idle_true _ (r.phased.still n (out_not_up _ (r.numbered.beyond n far)))) busy)
+]
+
+pub token_busy : (locks : ℕ → Lock) (n : ℕ) (s : SenderPhase) → token_granted_refusal locks n s ≡ None → is_sender_idle s ≡ false
+token_busy locks n senders.Idle e = cc
+token_busy locks n s e = refl
+
+pub message_busy : (locks : ℕ → Lock) (n : ℕ) (s : SenderPhase) → message_granted_refusal locks n s ≡ None → is_sender_idle s ≡ false
+message_busy locks n senders.Idle e = cc
+message_busy locks n s e = refl
+
+pub ack_busy : (locks : ℕ → Lock) (n : ℕ) (s : SenderPhase) → ack_granted_refusal locks n s ≡ None → is_sender_idle s ≡ false
+ack_busy locks n senders.Idle e = cc
+ack_busy locks n s e = refl
+
+waits : (b : Bool) (r : ReceiverPhase) → is_idle r ≡ b → (is_idle r ≡ true → ⊥) → b ≡ false
+waits true r e no = absurd (no e)
+waits false r e no = refl
+
+idle_refused : (locks : ℕ → Lock) (n : ℕ) (r : Receiving) → pr_granted_refusal locks n r ≡ None → is_idle r.phase ≡ true → ⊥
+idle_refused locks n r e i = by_phase r.phase e i
+  where
+    by_phase : (p : ReceiverPhase) → pr_granted_refusal locks n (record r { phase = p }) ≡ None → is_idle p ≡ true → ⊥
+    by_phase receivers.Idle e i = cc
+    by_phase receivers.Taken e i = cc
+    by_phase receivers.Waiting e i = cc
+    by_phase receivers.Ready e i = cc
+
+pub pr_busy : (locks : ℕ → Lock) (n : ℕ) (r : Receiving) → pr_granted_refusal locks n r ≡ None → is_idle r.phase ≡ false
+pr_busy locks n r e = waits (is_idle r.phase) r.phase refl (idle_refused locks n r e)
+
+asks_one : (conversions requests : List Ask) (n : ℕ) (mode : Mode) → head conversions requests ≡ Some (ask_for n mode) → conversions ≡ [] → asks_of n requests ≡ [] → ⊥
+asks_one (a ∷ conversions) requests n mode e none asks = cc
+asks_one [] [] n mode e none asks = cc
+asks_one [] (a ∷ requests) n mode e none asks =
+    let same : a ≡ ask_for n mode = cc in
+    let b = rw same at asks in
+    grind (arith, nat_tests, b)
+
+pub resync_below : (core : Core) (n : ℕ) (mode : Mode) → Rounded core → ResyncLock core → asker core resources.Resync ≡ Some (ask_for n mode) → n < 16
+resync_below core n mode r lock is = elim (lt_or n 16) [
+  | inl lt ↦ lt
+  | inr far ↦
+      let still = lock.still n (out_not_up _ (r.numbered.beyond n far)) in
+      absurd (asks_one _ _ n mode is lock.conversions (lock.requests n ∙ ap turn_request still))
+]
+
+-- EX on `message` is a sender's
+
+pub is_sent : (core : Core) (n : ℕ) (mode : Mode) → (mode ≡ PR → ⊥) → message_held core n mode ≡ sender_now core n senders.MessageHeld
+is_sent core n PR e = absurd (e refl)
+is_sent core n NL e = refl
+is_sent core n CR e = refl
+is_sent core n CW e = refl
+is_sent core n PW e = refl
+is_sent core n EX e = refl
+
+pub news_sent : (locks : ℕ → Lock) (core : Core) (n : ℕ) (mode : Mode) → (mode ≡ PR → ⊥) → message_news locks core n mode ≡ message_granted_refusal locks n (core.sender n)
+news_sent locks core n PR e = absurd (e refl)
+news_sent locks core n NL e = refl
+news_sent locks core n CR e = refl
+news_sent locks core n CW e = refl
+news_sent locks core n PW e = refl
+news_sent locks core n EX e = refl

@@ -1,0 +1,4 @@
+mod Rounding
+mod Converting
+mod Granted
+mod Saying
