@@ -35,40 +35,30 @@ use Rattle.world_state.specs.Ready.{Ready}
 abbrev pub seen : Ask → ℕ × Mode
 seen a = (a.node, a.mode)
 
-pub asked : (x : Option Ask) (n : ℕ) (mode : Mode) → option_map (λ a. (a.node, a.mode)) x ≡ Some (n, mode) → x ≡ Some (ask_for n mode)
-asked None n mode e = cc
-asked (Some a) n mode e =
-    let p : seen a ≡ (n, mode) = cc in
-    ap (λ (q : ℕ × Mode). Some (ask_for q.0 q.1)) p
+pub asked : (x : Option Ask) (q : ℕ × Mode) → Some q ≡ option_map seen x → x ≡ Some (ask_for q.0 q.1)
+asked None q e = cc
+asked (Some a) q e =
+    let p : q ≡ seen a = cc in
+    ap (λ (r : ℕ × Mode). Some (ask_for r.0 r.1)) (sym p)
 
-pub nobody : (x : Option Ask) → option_map (λ a. (a.node, a.mode)) x ≡ None → x ≡ None
+pub nobody : (x : Option Ask) → None ≡ option_map seen x → x ≡ None
 nobody None e = refl
 nobody (Some a) e = cc
 
--- the guards of a grant whose asker is known
-pub record GrantAt (core : Core) (res : Res) (n : ℕ) (mode : Mode) : Type 0 where
-  pub is : asker core res ≡ Some (ask_for n mode)
-  pub may : grant_refusal (core.locks (number_of res)) ≡ None
-  pub told : news_refusal (served core.locks res) core res (ask_for n mode) ≡ None
+grantable_by : (lock : Lock) (n : ℕ) (mode : Mode) → not_grantable lock (Some (ask_for n mode)) ≡ None → head lock.conversions lock.requests ≡ Some (ask_for n mode) → grant_refusal lock ≡ None
+grantable_by lock n mode e h = rw (h, refused_none _ _ e) refl
 
-grantable : (lock : Lock) (n : ℕ) (mode : Mode) → not_grantable lock (Some (ask_for n mode)) ≡ None → head lock.conversions lock.requests ≡ Some (ask_for n mode) → grant_refusal lock ≡ None
-grantable lock n mode e h = rw (h, refused_none _ _ e) refl
-
-pub grant_at : (core : Core) (res : Res) (n : ℕ) (mode : Mode) → refusal core (Grant res) ≡ None → Ready core
+-- the grant isn't refused
+pub grantable : (core : Core) (res : Res) (n : ℕ) (mode : Mode) → refusal core (Grant res) ≡ None → asker core res ≡ Some (ask_for n mode)
     → head (core.locks (number_of res)).conversions (core.locks (number_of res)).requests ≡ asker core res
-    → option_map (λ a. (a.node, a.mode)) (asker core res) ≡ Some (n, mode) → GrantAt core res n mode
-grant_at core res n mode ok ready h e =
-    let is : asker core res ≡ Some (ask_for n mode) = asked (asker core res) n mode e in
+    → grant_refusal (core.locks (number_of res)) ≡ None
+grantable core res n mode ok is h =
     let a = first_none (found_or (asker core res) (NothingAsked res)) _ ok in
     let b = first_none (not_grantable (core.locks (number_of res)) (asker core res)) [] a.1 in
-    record {
-      is = is;
-      may = grantable (core.locks (number_of res)) n mode (rw is at b.0) (h ∙ is);
-      told = ready.unblocked.told res (ask_for n mode) ok is;
-    }
+    grantable_by (core.locks (number_of res)) n mode (rw is at b.0) (h ∙ is)
 
 -- somebody waits
-pub some_asker : (core : Core) (res : Res) → refusal core (Grant res) ≡ None → option_map (λ a. (a.node, a.mode)) (asker core res) ≡ None → ⊥
+pub some_asker : (core : Core) (res : Res) → refusal core (Grant res) ≡ None → None ≡ option_map seen (asker core res) → ⊥
 some_asker core res ok e =
     let none = nobody (asker core res) e in
     let a = first_none (found_or (asker core res) (NothingAsked res)) _ ok in
@@ -117,8 +107,8 @@ ack_busy locks n senders.Idle e = cc
 ack_busy locks n s e = refl
 
 waits : (b : Bool) (r : ReceiverPhase) → is_idle r ≡ b → (is_idle r ≡ true → ⊥) → b ≡ false
-waits true r e no = absurd (no e)
-waits false r e no = refl
+waits true r e wrong = absurd (wrong e)
+waits false r e wrong = refl
 
 idle_refused : (locks : ℕ → Lock) (n : ℕ) (r : Receiving) → pr_granted_refusal locks n r ≡ None → is_idle r.phase ≡ true → ⊥
 idle_refused locks n r e i = by_phase r.phase e i

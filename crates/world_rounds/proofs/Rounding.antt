@@ -1,7 +1,12 @@
 -- What an accepted row of a round has of its locks.
-use Rattle.std.proofs.Common.{◌≡◌, ◌<◌, ℕ, Bool, true, false, List, [], ◌∷◌, Option, Some, None, refl, arith}
+use Rattle.std.proofs.Common.{◌≡◌, ◌<◌, ℕ, Bool, true, false, List, [], ◌∷◌, Option, Some, None, refl, arith, if◌then◌else◌}
+use Rattle.dlm_modes.specs.Points.{with_at}
+use Rattle.dlm_space.specs.Locks.{Lock, let_go}
+use Rattle.msg_rounds.specs.declared.phases.SenderPhase.{SenderPhase}
+use Rattle.msg_rounds.specs.Locks.{message_res, quitted}
+use Rattle.cluster_model.specs.Changes.{no_new_dev}
 use Rattle.msg_rounds.specs.Holds.{NodeHolds}
-use Rattle.msg_rounds.specs.Phases.{is_idle}
+use Rattle.msg_rounds.specs.Phases.{is_idle, has_message}
 use Rattle.msg_rounds.specs.Refusals.{is_sender_idle, is_token_held, ask_token_refusal, ask_message_refusal}
 use Rattle.mdc_types.specs.declared.events.Event.TheVariants.{AskToken, AskMessage}
 use Rattle.cluster_model.specs.State.{Core}
@@ -36,3 +41,11 @@ message_at core n ok ready =
     let b = tested (is_token_held (core.sender n)) _ _ a.1 in
     let c = tested (is_idle (core.receiver n).phase) _ _ b.1 in
     record { node = l.node; holds = ready.rounded.phased.holds n; may = may_ask_message _ _ b.0 c.0 }
+
+-- a round that is given up leaves `no-new-dev` as it is
+pub quitted_device : (locks : ℕ → Lock) (n : ℕ) (s : SenderPhase) → quitted locks n s no_new_dev ≡ locks no_new_dev
+quitted_device locks n s = by_test (has_message s)
+  where
+    by_test : (b : Bool) → (if b then with_at locks message_res (let_go (locks message_res) n) else locks) no_new_dev ≡ locks no_new_dev
+    by_test true = refl
+    by_test false = refl

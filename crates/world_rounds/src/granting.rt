@@ -1,12 +1,13 @@
 // `grant`: the first who waits for a resource gets its lock, and goes on.
-ghost use Rattle.std.specs.Prelude.{◌≡◌, ◌<◌, ◌∷◌, [], None};
+ghost use Rattle.std.specs.Prelude.{◌≡◌, ◌<◌, ◌∷◌, [], None, Some};
+ghost use Rattle.std.specs.Option.{option_map};
 ghost use Rattle.dlm_modes.specs.Guards.{first_of};
 ghost use Rattle.dlm_space.specs.Locks.{mode_of};
 ghost use Rattle.dlm_space.specs.Parts.{locks_of};
-ghost use Rattle.dlm_space.specs.Queues.{head};
+ghost use Rattle.dlm_space.specs.Queues.{head, ask_for};
 ghost use Rattle.mdc_types.specs.Resources.{IsResource, number_of};
 ghost use Rattle.cluster_model.specs.Guards.{found_or};
-ghost use Rattle.cluster_model.specs.Granting.{not_grantable};
+ghost use Rattle.cluster_model.specs.Granting.{asker, not_grantable, grant};
 ghost use Rattle.cluster_model.specs.Table.{refusal};
 ghost use Rattle.cluster_model.specs.After.{after};
 ghost use Rattle.cluster_model.specs.Outcomes.{outcome_of};
@@ -61,68 +62,102 @@ pub fn may_grant(core: &CoreState, res: Res) -> Result<(), Refusal>
     }
 }
 
-// The token is granted to who asks it first.
-fn grant_token(core: &mut CoreState) -> Outcome
+// Who waits for the resource first, and for which mode.
+fn asker(core: &CoreState, res: Res) -> Option<(NodeId, Mode)>
+    ensures { result ≡ option_map (λ a. (a.node, a.mode)) (asker (core_of core.now) res) }
+{
+    match res {
+        Res::Bitmap(_) | Res::NoNewDev => None,
+        Res::Token => core.space.head(Res::Token.number()),
+        Res::Message => core.space.head(Res::Message.number()),
+        Res::Ack => core.space.head(Res::Ack.number()),
+        Res::Resync => core.space.head(Res::Resync.number()),
+    }
+}
+
+// The token is granted.
+fn grant_token(core: &mut CoreState, n: NodeId, mode: Mode)
     requires accepted { refusal (core_of core.old) (Event.Grant Res.Token) ≡ None }
     requires ready { Ready (core_of core.old) }
-    ensures outcome { result ≡ outcome_of (core_of core.old) (Event.Grant Res.Token) }
-    ensures after { core_of core.new ≡ after (core_of core.old) (Event.Grant Res.Token) result }
+    requires asks { asker (core_of core.old) Res.Token ≡ Some (ask_for n mode) }
+    ensures { core_of core.new ≡ grant (core_of core.old) Res.Token }
 {
-    let Some((node, mode)) = core.space.head(Res::Token.number()) else {
-        unreachable!()
-    };
     tables::grant(&mut core.space, Res::Token);
-    tables::token_granted(&mut core.senders, &mut core.space, node);
-    Outcome::Granted { node, mode }
+    tables::token_granted(&mut core.senders, &mut core.space, n);
 }
 
-// `ack` is granted to who asks it first: all have processed its message.
-fn grant_ack(core: &mut CoreState) -> Outcome
+// `ack` is granted: all have processed the message.
+fn grant_ack(core: &mut CoreState, n: NodeId, mode: Mode)
     requires accepted { refusal (core_of core.old) (Event.Grant Res.Ack) ≡ None }
     requires ready { Ready (core_of core.old) }
-    ensures outcome { result ≡ outcome_of (core_of core.old) (Event.Grant Res.Ack) }
-    ensures after { core_of core.new ≡ after (core_of core.old) (Event.Grant Res.Ack) result }
+    requires asks { asker (core_of core.old) Res.Ack ≡ Some (ask_for n mode) }
+    ensures { core_of core.new ≡ grant (core_of core.old) Res.Ack }
 {
-    let Some((node, mode)) = core.space.head(Res::Ack.number()) else {
-        unreachable!()
-    };
     tables::grant(&mut core.space, Res::Ack);
-    tables::ack_granted(&mut core.senders, &mut core.space, node);
-    Outcome::Granted { node, mode }
+    tables::ack_granted(&mut core.senders, &mut core.space, n);
 }
 
-// `resync` is granted to who asks it first, which then copies.
-fn grant_resync(core: &mut CoreState) -> Outcome
+// `resync` is granted: the node copies.
+fn grant_resync(core: &mut CoreState, n: NodeId, mode: Mode)
     requires accepted { refusal (core_of core.old) (Event.Grant Res.Resync) ≡ None }
     requires ready { Ready (core_of core.old) }
-    ensures outcome { result ≡ outcome_of (core_of core.old) (Event.Grant Res.Resync) }
-    ensures after { core_of core.new ≡ after (core_of core.old) (Event.Grant Res.Resync) result }
+    requires asks { asker (core_of core.old) Res.Resync ≡ Some (ask_for n mode) }
+    ensures { core_of core.new ≡ grant (core_of core.old) Res.Resync }
 {
-    let Some((node, mode)) = core.space.head(Res::Resync.number()) else {
-        unreachable!()
-    };
     tables::grant(&mut core.space, Res::Resync);
-    core.copies.held(node);
-    Outcome::Granted { node, mode }
+    core.copies.held(n);
 }
 
-// `message` is granted: PR to a receiver that is ready then, and EX to the sender.
-fn grant_message(core: &mut CoreState) -> Outcome
+// PR on `message` is granted: the receiver is ready.
+fn grant_receiver(core: &mut CoreState, n: NodeId)
     requires accepted { refusal (core_of core.old) (Event.Grant Res.Message) ≡ None }
     requires ready { Ready (core_of core.old) }
-    ensures outcome { result ≡ outcome_of (core_of core.old) (Event.Grant Res.Message) }
-    ensures after { core_of core.new ≡ after (core_of core.old) (Event.Grant Res.Message) result }
+    requires asks { asker (core_of core.old) Res.Message ≡ Some (ask_for n Mode.PR) }
+    ensures { core_of core.new ≡ grant (core_of core.old) Res.Message }
 {
-    let Some((node, mode)) = core.space.head(Res::Message.number()) else {
-        unreachable!()
-    };
     tables::grant(&mut core.space, Res::Message);
-    if let Mode::PR = mode {
-        tables::pr_granted(&mut core.receivers, &mut core.space, node);
-        return Outcome::Granted { node, mode };
+    tables::pr_granted(&mut core.receivers, &mut core.space, n);
+}
+
+// EX on `message` is granted to the sender.
+fn grant_sender(core: &mut CoreState, n: NodeId, mode: Mode)
+    requires accepted { refusal (core_of core.old) (Event.Grant Res.Message) ≡ None }
+    requires ready { Ready (core_of core.old) }
+    requires asks { asker (core_of core.old) Res.Message ≡ Some (ask_for n mode) }
+    requires sends { mode ≡ Mode.PR → ⊥ }
+    ensures { core_of core.new ≡ grant (core_of core.old) Res.Message }
+{
+    tables::grant(&mut core.space, Res::Message);
+    tables::message_granted(&mut core.senders, &mut core.space, n);
+}
+
+// `message` is granted: PR to a receiver, and EX to the sender.
+fn grant_message(core: &mut CoreState, n: NodeId, mode: Mode)
+    requires accepted { refusal (core_of core.old) (Event.Grant Res.Message) ≡ None }
+    requires ready { Ready (core_of core.old) }
+    requires asks { asker (core_of core.old) Res.Message ≡ Some (ask_for n mode) }
+    ensures { core_of core.new ≡ grant (core_of core.old) Res.Message }
+{
+    match mode {
+        Mode::PR => grant_receiver(core, n),
+        Mode::NL | Mode::CR | Mode::CW | Mode::PW | Mode::EX => grant_sender(core, n, mode),
     }
-    tables::message_granted(&mut core.senders, &mut core.space, node);
-    Outcome::Granted { node, mode }
+}
+
+// The grant of the resource to its asker.
+fn grant_to(core: &mut CoreState, res: Res, n: NodeId, mode: Mode)
+    requires accepted { refusal (core_of core.old) (Event.Grant res) ≡ None }
+    requires ready { Ready (core_of core.old) }
+    requires asks { asker (core_of core.old) res ≡ Some (ask_for n mode) }
+    ensures { core_of core.new ≡ grant (core_of core.old) res }
+{
+    match res {
+        Res::Token => grant_token(core, n, mode),
+        Res::Message => grant_message(core, n, mode),
+        Res::Ack => grant_ack(core, n, mode),
+        Res::Resync => grant_resync(core, n, mode),
+        Res::Bitmap(_) | Res::NoNewDev => unreachable!(),
+    }
 }
 
 /// The first who waits for the resource gets its lock, and goes on.
@@ -132,11 +167,12 @@ pub fn grant(core: &mut CoreState, res: Res) -> Outcome
     ensures outcome { result ≡ outcome_of (core_of core.old) (Event.Grant res) }
     ensures after { core_of core.new ≡ after (core_of core.old) (Event.Grant res) result }
 {
-    match res {
-        Res::Token => grant_token(core),
-        Res::Message => grant_message(core),
-        Res::Ack => grant_ack(core),
-        Res::Resync => grant_resync(core),
-        Res::Bitmap(_) | Res::NoNewDev => unreachable!(),
+    let Some(first) = asker(core, res) else {
+        unreachable!()
+    };
+    grant_to(core, res, first.0, first.1);
+    Outcome::Granted {
+        node: first.0,
+        mode: first.1,
     }
 }

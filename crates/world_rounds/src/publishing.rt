@@ -1,5 +1,5 @@
 // `publish`: what the offer says is published to all.
-ghost use Rattle.std.specs.Prelude.{◌≡◌, ◌<◌, ◌==◌, ◌&&◌, not, ℕ, [], None, Some, true, get_or, if◌then◌else◌};
+ghost use Rattle.std.specs.Prelude.{◌≡◌, ◌<◌, ◌==◌, ◌&&◌, not, ℕ, Option, [], None, Some, true, length, get_or, if◌then◌else◌};
 ghost use Rattle.std.specs.Option.{option_map};
 ghost use Rattle.dlm_modes.specs.Guards.{first_of};
 ghost use Rattle.dlm_space.specs.Locks.{convert_refusal};
@@ -10,6 +10,7 @@ ghost use Rattle.cluster_msgs.specs.Ranges.{IsRange};
 ghost use Rattle.msg_rounds.specs.Holds.{SenderHolds};
 ghost use Rattle.msg_rounds.specs.Locks.{published};
 ghost use Rattle.msg_rounds.specs.Refusals.{is_ex, publish_refusal};
+ghost use Rattle.mdc_types.specs.declared.numbers.Range.{Range};
 ghost use Rattle.suspend_ranges.specs.Suspended.{entry_of, ranges_of};
 ghost use Rattle.cluster_model.specs.Changes.{no_new_dev, sender_now, device_unlocked};
 ghost use Rattle.cluster_model.specs.Guards.{refused_by, draining, draining_in, reading};
@@ -139,7 +140,8 @@ fn send_block(core: &mut CoreState, n: NodeId, block: &Block)
 #[tactic(auto, using(crate::proofs::Saying::range_put))]
 fn put_range(suspended: &mut [SuspendList; 16], n: NodeId, r: Range)
     requires { n < 16 }
-    ensures { (λ m. ranges_of (get_or suspended.new m [])) ≡ (λ m owner. if (m == n) && (owner == n) then entry_of r else ranges_of (get_or suspended.old m []) owner) }
+    ensures ranges { ◌≡◌ {A = ℕ → ℕ → Option Range} (λ m. ranges_of (get_or suspended.new m [])) (λ m owner. if (m == n) && (owner == n) then entry_of r else ranges_of (get_or suspended.old m []) owner) }
+    ensures sixteen { length suspended.new ≡ 16 }
 {
     suspended[n as usize].put(n, r);
 }

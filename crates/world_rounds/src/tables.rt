@@ -1,5 +1,5 @@
 // What the calls of a round do to the tables of senders and of locks.
-ghost use Rattle.std.specs.Prelude.{◌≡◌, ◌<◌, ℕ, true, is_none, is_some, Some, None, get_or};
+ghost use Rattle.std.specs.Prelude.{◌≡◌, ◌<◌, ℕ, true, is_none, is_some, Some, None, length, get_or};
 ghost use Rattle.dlm_modes.specs.Points.{with_at};
 ghost use Rattle.dlm_space.specs.Locks.{holding, ask_now_refusal, convert_refusal, convert_now_refusal, granted, grant_refusal};
 ghost use Rattle.dlm_space.specs.Parts.{locks_of};
@@ -30,6 +30,7 @@ pub fn ask_token(
     requires holds { SenderHolds (locks_of space.old) n (get_or senders.old n Idle) }
     requires may { ask_token_refusal (get_or senders.old n Idle) (get_or receivers.now n new_receiving).phase ≡ None }
     ensures sender { (λ m. get_or senders.new m Idle) ≡ with_at (λ m. get_or senders.old m Idle) n TokenAsked }
+    ensures sixteen { length senders.new ≡ 16 }
     ensures locks { locks_of space.new ≡ token_asked (locks_of space.old) n }
 {
     let i = n as usize;
@@ -50,6 +51,7 @@ pub fn ask_message(
     requires holds { NodeHolds (locks_of space.old) n (get_or senders.old n Idle) (get_or receivers.now n new_receiving).phase }
     requires may { ask_message_refusal (get_or senders.old n Idle) (get_or receivers.now n new_receiving).phase ≡ None }
     ensures sender { (λ m. get_or senders.new m Idle) ≡ with_at (λ m. get_or senders.old m Idle) n MessageAsked }
+    ensures sixteen { length senders.new ≡ 16 }
     ensures locks { locks_of space.new ≡ message_asked (locks_of space.old) n }
 {
     let i = n as usize;
@@ -64,6 +66,7 @@ pub fn token_granted(senders: &mut [Sender; 16], space: &mut Space, n: NodeId)
     requires node { n < 16 }
     requires may { token_granted_refusal (locks_of space.old) n (get_or senders.old n Idle) ≡ None }
     ensures sender { (λ m. get_or senders.new m Idle) ≡ with_at (λ m. get_or senders.old m Idle) n TokenHeld }
+    ensures sixteen { length senders.new ≡ 16 }
     ensures locks { locks_of space.new ≡ locks_of space.old }
 {
     let sender = &mut senders[n as usize];
@@ -77,6 +80,7 @@ pub fn message_granted(senders: &mut [Sender; 16], space: &mut Space, n: NodeId)
     requires node { n < 16 }
     requires may { message_granted_refusal (locks_of space.old) n (get_or senders.old n Idle) ≡ None }
     ensures sender { (λ m. get_or senders.new m Idle) ≡ with_at (λ m. get_or senders.old m Idle) n MessageHeld }
+    ensures sixteen { length senders.new ≡ 16 }
     ensures locks { locks_of space.new ≡ locks_of space.old }
 {
     let sender = &mut senders[n as usize];
@@ -90,6 +94,7 @@ pub fn ack_granted(senders: &mut [Sender; 16], space: &mut Space, n: NodeId)
     requires node { n < 16 }
     requires may { ack_granted_refusal (locks_of space.old) n (get_or senders.old n Idle) ≡ None }
     ensures sender { (λ m. get_or senders.new m Idle) ≡ with_at (λ m. get_or senders.old m Idle) n Granted }
+    ensures sixteen { length senders.new ≡ 16 }
     ensures locks { locks_of space.new ≡ locks_of space.old }
 {
     let sender = &mut senders[n as usize];
@@ -103,6 +108,7 @@ pub fn pr_granted(receivers: &mut [Receiver; 16], space: &mut Space, n: NodeId)
     requires node { n < 16 }
     requires may { pr_granted_refusal (locks_of space.old) n (get_or receivers.old n new_receiving) ≡ None }
     ensures receiver { (λ m. get_or receivers.new m new_receiving) ≡ with_at (λ m. get_or receivers.old m new_receiving) n (now_in ReceiverPhase.Ready (get_or receivers.old n new_receiving)) }
+    ensures sixteen { length receivers.new ≡ 16 }
     ensures locks { locks_of space.new ≡ locks_of space.old }
 {
     let receiver = &mut receivers[n as usize];
@@ -116,6 +122,7 @@ pub fn offer(senders: &mut [Sender; 16], space: &mut Space, n: NodeId)
     requires node { n < 16 }
     requires may { offer_refusal (get_or senders.old n Idle) ≡ None }
     ensures sender { (λ m. get_or senders.new m Idle) ≡ with_at (λ m. get_or senders.old m Idle) n Offered }
+    ensures sixteen { length senders.new ≡ 16 }
     ensures locks { locks_of space.new ≡ locks_of space.old }
 {
     let sender = &mut senders[n as usize];
@@ -130,6 +137,7 @@ pub fn publish(senders: &mut [Sender; 16], space: &mut Space, n: NodeId, block: 
     requires holds { SenderHolds (locks_of space.old) n (get_or senders.old n Idle) }
     requires may { publish_refusal (get_or senders.old n Idle) ≡ None }
     ensures sender { (λ m. get_or senders.new m Idle) ≡ with_at (λ m. get_or senders.old m Idle) n Published }
+    ensures sixteen { length senders.new ≡ 16 }
     ensures locks { locks_of space.new ≡ published (locks_of space.old) n block.now }
 {
     let sender = &mut senders[n as usize];
@@ -144,6 +152,7 @@ pub fn finish(senders: &mut [Sender; 16], space: &mut Space, n: NodeId)
     requires holds { SenderHolds (locks_of space.old) n (get_or senders.old n Idle) }
     requires may { finish_refusal (get_or senders.old n Idle) ≡ None }
     ensures sender { (λ m. get_or senders.new m Idle) ≡ with_at (λ m. get_or senders.old m Idle) n Idle }
+    ensures sixteen { length senders.new ≡ 16 }
     ensures locks { locks_of space.new ≡ finished (locks_of space.old) n }
 {
     let sender = &mut senders[n as usize];
@@ -158,6 +167,7 @@ pub fn quit(senders: &mut [Sender; 16], space: &mut Space, n: NodeId)
     requires holds { SenderHolds (locks_of space.old) n (get_or senders.old n Idle) }
     requires may { quit_refusal (get_or senders.old n Idle) ≡ None }
     ensures sender { (λ m. get_or senders.new m Idle) ≡ with_at (λ m. get_or senders.old m Idle) n Idle }
+    ensures sixteen { length senders.new ≡ 16 }
     ensures locks { locks_of space.new ≡ quitted (locks_of space.old) n (get_or senders.old n Idle) }
 {
     let sender = &mut senders[n as usize];
