@@ -138,6 +138,19 @@ resync_below core n mode r lock is = elim (lt_or n 16) [
       absurd (asks_one _ _ n mode is lock.conversions (lock.requests n ∙ ap turn_request still))
 ]
 
+-- who is told of a grant
+pub token_below : (core : Core) (n : ℕ) (mode : Mode) → Rounded core → news_refusal (served core.locks resources.Token) core resources.Token (ask_for n mode) ≡ None → n < 16
+token_below core n mode r told = sender_below core n r (token_busy (served core.locks resources.Token) n (core.sender n) told)
+
+pub ack_below : (core : Core) (n : ℕ) (mode : Mode) → Rounded core → news_refusal (served core.locks resources.Ack) core resources.Ack (ask_for n mode) ≡ None → n < 16
+ack_below core n mode r told = sender_below core n r (ack_busy (served core.locks resources.Ack) n (core.sender n) told)
+
+pub pr_below : (core : Core) (n : ℕ) → Rounded core → news_refusal (served core.locks resources.Message) core resources.Message (ask_for n PR) ≡ None → n < 16
+pr_below core n r told = receiver_below core n r (pr_busy (served core.locks resources.Message) n (core.receiver n) told)
+
+pub message_below : (core : Core) (n : ℕ) → Rounded core → message_granted_refusal (served core.locks resources.Message) n (core.sender n) ≡ None → n < 16
+message_below core n r told = sender_below core n r (message_busy (served core.locks resources.Message) n (core.sender n) told)
+
 -- EX on `message` is a sender's
 
 pub is_sent : (core : Core) (n : ℕ) (mode : Mode) → (mode ≡ PR → ⊥) → message_held core n mode ≡ sender_now core n senders.MessageHeld
@@ -148,10 +161,10 @@ is_sent core n CW e = refl
 is_sent core n PW e = refl
 is_sent core n EX e = refl
 
-pub news_sent : (locks : ℕ → Lock) (core : Core) (n : ℕ) (mode : Mode) → (mode ≡ PR → ⊥) → message_news locks core n mode ≡ message_granted_refusal locks n (core.sender n)
-news_sent locks core n PR e = absurd (e refl)
-news_sent locks core n NL e = refl
-news_sent locks core n CR e = refl
-news_sent locks core n CW e = refl
-news_sent locks core n PW e = refl
-news_sent locks core n EX e = refl
+pub news_sent : (locks : ℕ → Lock) (core : Core) (n : ℕ) (mode : Mode) → (mode ≡ PR → ⊥) → message_news locks core n mode ≡ None → message_granted_refusal locks n (core.sender n) ≡ None
+news_sent locks core n PR e told = absurd (e refl)
+news_sent locks core n NL e told = told
+news_sent locks core n CR e told = told
+news_sent locks core n CW e told = told
+news_sent locks core n PW e told = told
+news_sent locks core n EX e told = told
