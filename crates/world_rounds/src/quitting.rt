@@ -7,6 +7,7 @@ ghost use Rattle.msg_rounds.specs.Refusals.{is_ex, quit_refusal};
 ghost use Rattle.node_member.specs.Members.{left};
 ghost use Rattle.cluster_model.specs.Changes.{no_new_dev, sender_now, device_unlocked};
 ghost use Rattle.cluster_model.specs.Phases.{is_up};
+ghost use Rattle.cluster_model.specs.Rounds.{quit};
 ghost use Rattle.cluster_model.specs.Table.{refusal};
 ghost use Rattle.cluster_model.specs.After.{after};
 ghost use Rattle.cluster_model.specs.Outcomes.{outcome_of};
@@ -51,9 +52,65 @@ fn give_up(core: &mut CoreState, n: NodeId)
 fn quit_round(core: &mut CoreState, n: NodeId)
     requires accepted { refusal (core_of core.old) (Event.Quit n) ≡ None }
     requires ready { Ready (core_of core.old) }
-    requires up { (core_of core.old).state n ≡ NodeState.Up }
-    ensures { core_of core.new ≡ after (core_of core.old) (Event.Quit n) Outcome.Done }
+    requires up { is_up ((core_of core.old).state n) ≡ true }
+    ensures { core_of core.new ≡ quit (core_of core.old) n }
 {
     give_up(core, n);
     core.set_offer(n, None);
+}
+
+/// The live node leaves the record, and lets go of all its locks.
+pub fn leave(core: &mut CoreState, n: NodeId, clean: bool)
+    requires node { n < 16 }
+    requires live { (core_of core.old).members.live n ≡ true }
+    ensures { core_of core.new ≡ record (core_of core.old) {
+      members = left (core_of core.old).members n clean;
+      locks = all_let_go (core_of core.old).locks n;
+    } }
+{
+    core.members.leave(n, clean);
+    core.space.release_all(n);
+}
+
+// A node that isn't up yet gives its first round up: it is out, and its slot isn't pending.
+fn quit_joining(core: &mut CoreState, n: NodeId)
+    requires accepted { refusal (core_of core.old) (Event.Quit n) ≡ None }
+    requires ready { Ready (core_of core.old) }
+    requires joining { is_up ((core_of core.old).state n) ≡ false }
+    ensures { core_of core.new ≡ quit (core_of core.old) n }
+{
+    core.sender_idle(n);
+    core.node_out(n);
+    leave(core, n, true);
+}
+
+fn is_up(core: &CoreState, n: NodeId) -> bool
+    requires { n < 16 }
+    ensures { result ≡ is_up ((core_of core.now).state n) }
+{
+    matches!(core.states[n as usize], NodeState::Up)
+}
+
+// The round is given up.
+fn give_round_up(core: &mut CoreState, n: NodeId)
+    requires accepted { refusal (core_of core.old) (Event.Quit n) ≡ None }
+    requires ready { Ready (core_of core.old) }
+    ensures { core_of core.new ≡ quit (core_of core.old) n }
+{
+    if is_up(core, n) {
+        quit_round(core, n);
+    } else {
+        quit_joining(core, n);
+    }
+}
+
+/// The round is given up. A node that isn't up yet is out then.
+pub fn quit(core: &mut CoreState, n: NodeId) -> Outcome
+    requires accepted { refusal (core_of core.old) (Event.Quit n) ≡ None }
+    requires ready { Ready (core_of core.old) }
+    ensures outcome { result ≡ outcome_of (core_of core.old) (Event.Quit n) }
+    ensures after { core_of core.new ≡ after (core_of core.old) (Event.Quit n) result }
+{
+    give_round_up(core, n);
+    Outcome::Done
 }
