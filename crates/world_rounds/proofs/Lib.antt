@@ -2,3 +2,4 @@ mod Rounding
 mod Converting
 mod Granted
 mod Saying
+mod Publishes

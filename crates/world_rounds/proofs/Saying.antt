@@ -14,11 +14,11 @@ use Rattle.std.proofs.lemmas.List.{get_or_default}
 use Rattle.world_state.proofs.Points.{get-set}
 
 -- one owner's range in one node's list
-pub range_put : (xs : List (List (Option Range))) (n : ℕ) (r : Range) (got new : List (Option Range)) → n < length xs
-    → got ≡ get_or xs n got → ranges_of new ≡ with_at (ranges_of got) n (entry_of r)
+pub range_put : (xs : List (List (Option Range))) (n : ℕ) (r : Range) (d new : List (Option Range)) → n < length xs
+    → ranges_of new ≡ with_at (ranges_of (get_or xs n d)) n (entry_of r)
     → ◌≡◌ {A = ℕ → ℕ → Option Range} (λ m. ranges_of (get_or (set xs n new) m [])) (λ m owner. if (m == n) && (owner == n) then entry_of r else ranges_of (get_or xs m []) owner)
-range_put xs n r got new lt is e =
-    let here : got ≡ get_or xs n [] = is ∙ get_or_default xs n got [] lt in
+range_put xs n r d new lt e =
+    let here : get_or xs n d ≡ get_or xs n [] = get_or_default xs n d [] lt in
     let told = rw here at e in
     fun_ext (λ m. fun_ext (λ owner. at_point m owner (m == n) refl told))
   where

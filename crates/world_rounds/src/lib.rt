@@ -13,6 +13,6 @@ mod tables;
 pub use asking::{ask_message, ask_token, may_ask_message, may_ask_token};
 pub use granting::{grant, may_grant};
 pub use locking::{lock_device, may_lock_device};
-pub use finishing::may_finish_round;
-pub use publishing::may_publish;
+pub use finishing::{finish_round, may_finish_round};
+pub use publishing::{may_publish, publish};
 pub use quitting::{may_quit, quit};

@@ -158,3 +158,41 @@ fn tell_range(core: &mut CoreState, n: NodeId, r: Range)
     put_range(&mut core.suspended, n, r);
     tables::tell_range(&mut core.space, n, r);
 }
+
+// The offer's message is published.
+fn publish_offer(core: &mut CoreState, n: NodeId, offer: &Offer, block: &Block)
+    requires accepted { refusal (core_of core.old) (Event.Publish n) ≡ None }
+    requires ready { Ready (core_of core.old) }
+    requires offers { (core_of core.old).offer n ≡ Some (offer_of offer.now) }
+    requires block { block.now ≡ block_of (core_of core.old) n (offer_of offer.now) }
+    ensures { core_of core.new ≡ publish_offer (core_of core.old) n (Some (offer_of offer.now)) }
+{
+    send_block(core, n, block);
+    match offer.wish {
+        Wish::Range(r) => tell_range(core, n, r),
+        Wish::Meta
+        | Wish::Spare(_)
+        | Wish::Rebuild(_)
+        | Wish::Work(_)
+        | Wish::NewDisk(_)
+        | Wish::Remove(_)
+        | Wish::ReAdd(_)
+        | Wish::Unclean
+        | Wish::Grow(_) => {}
+    }
+}
+
+/// What the offer says is published to all.
+pub fn publish(core: &mut CoreState, n: NodeId) -> Outcome
+    requires accepted { refusal (core_of core.old) (Event.Publish n) ≡ None }
+    requires ready { Ready (core_of core.old) }
+    ensures outcome { result ≡ outcome_of (core_of core.old) (Event.Publish n) }
+    ensures after { core_of core.new ≡ after (core_of core.old) (Event.Publish n) result }
+{
+    let Some(offer) = messages::offer(core, n) else {
+        unreachable!()
+    };
+    let block = messages::block_of(core, n, &offer);
+    publish_offer(core, n, &offer, &block);
+    Outcome::Done
+}

@@ -7,7 +7,7 @@ use Rattle.msg_rounds.specs.Phases.{new_receiving}
 use Rattle.msg_rounds.specs.Refusals.{token_granted_refusal}
 use Rattle.msg_rounds.specs.declared.phases.SenderPhase.TheVariants.{Idle}
 use Rattle.laws_locks.specs.Unblocked.{served}
-use Rattle.world_state.specs.Kept.{core_of}
+use Rattle.world_state.specs.Kept.{Kept, core_of}
 use Rattle.world_rounds.proofs.Granted.{grantable, token_below, ack_below, pr_below, message_below, is_sent, news_sent}
 use Rattle.world_rounds.proofs.granting.grant_token.Goals as goal
 
@@ -20,7 +20,8 @@ token_granted-requires-clause-node c = token_below (core_of c.args.core.now) c.a
 pub token_granted-requires-clause-may : goal.token_granted-requires-clause-may
 token_granted-requires-clause-may c =
     subst (λ (locks : ℕ → Lock). token_granted_refusal locks c.args.n (get_or c.core.inside.senders c.args.n Idle) ≡ None) (sym c.grant.ensures)
-    (rw (← c.core.view_is) at (c.requires.ready.unblocked.told resources.Token (ask_for c.args.n c.args.mode) c.requires.accepted c.requires.asks))
+    (subst (λ (k : Kept). token_granted_refusal (served (core_of k).locks resources.Token) c.args.n ((core_of k).sender c.args.n) ≡ None) (sym c.core.view_is)
+    (c.requires.ready.unblocked.told resources.Token (ask_for c.args.n c.args.mode) c.requires.accepted c.requires.asks))
 
 pub returns : goal.returns
 returns c =

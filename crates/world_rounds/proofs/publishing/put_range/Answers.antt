@@ -5,4 +5,4 @@ use Rattle.world_rounds.proofs.publishing.put_range.Goals as goal
 pub returns-clause-ranges : goal.returns-clause-ranges
 returns-clause-ranges c =
     let lt : c.args.n < length c.args.suspended.now = omega (arith, c.requires, c.told-suspended) in
-    range_put c.args.suspended.now c.args.n c.args.r c.index-suspended-n.result c.put.new.self lt c.index-suspended-n.is c.put.ensures
+    range_put c.args.suspended.now c.args.n c.args.r c.index-suspended-n.result c.put.new.self lt c.put.ensures
