@@ -8,7 +8,10 @@ use Rattle.dlm_modes.specs.declared.mode.Mode.TheVariants.{PW}
 use Rattle.dlm_space.specs.Locks.{Lock, convert_refusal}
 use Rattle.mdc_types.specs.declared.events.Event.TheVariants.{Publish, FinishRound}
 use Rattle.mdc_types.specs.declared.numbers.Range.{Range}
-use Rattle.mdc_types.specs.declared.events.Wish.TheVariants as wishes
+use Rattle.mdc_types.specs.declared.events.Wish.{Wish}
+use Rattle.mdc_types.specs.declared.roles.NodeState.TheVariants as states
+use Rattle.node_member.specs.Members.{completed_at}
+use Rattle.cluster_model.specs.Finishing.{adding_after}
 use Rattle.mdc_types.specs.Geometry.{Sizes, IsGeometry}
 use Rattle.cluster_msgs.specs.Ranges.{IsRange}
 use Rattle.msg_rounds.specs.Holds.{SenderHolds}
@@ -89,4 +92,15 @@ own_lock locks n block lt = by_test (is_ex ((locks no_new_dev).held n)) refl
 
 -- a window of the room can be told
 pub told_fits : (g : Sizes) (r : Range) → IsGeometry g → WindowFits g r → IsRange r
-told_fits g r geometry w = record { hi = omega (arith, w.hi, geometry.few_sectors); order = w.order; empty = w.empty }
+told_fits g r geometry w = record { hi = omega (arith, w.hi, geometry.room); order = w.order; empty = w.empty }
+
+-- the events number is completed, and the addition goes on
+abbrev pub completed : Core → ℕ → ℕ → Wish → Core
+completed core n events wish = record core {
+  members = completed_at core.members events;
+  adding = with_at core.adding n (adding_after (core.adding n) wish);
+}
+
+-- the node is up
+abbrev pub upped : Core → ℕ → Core
+upped core n = record core { state = with_at core.state n states.Up }

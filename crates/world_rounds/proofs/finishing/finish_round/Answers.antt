@@ -24,3 +24,6 @@ returns-clause-after c =
     c.finish_wish.ensures
     ∙ ap (λ (k : Core). finish_wish k c.args.n (offer_of c.in-Some.offer) c.in-Some.offer.wish) c.end_round.ensures
     ∙ ap (finish_offer (core_of c.args.core.now) c.args.n) c.in-Some.ensures
+
+pub unreachable-requires : goal.unreachable-requires
+unreachable-requires c = (finish_at (core_of c.args.core.now) c.args.n c.requires.accepted c.requires.ready).offers (sym (c.in_default.ensures tt))

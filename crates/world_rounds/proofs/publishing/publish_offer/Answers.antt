@@ -7,7 +7,7 @@ use Rattle.dlm_space.specs.Locks.{Lock, convert_refusal}
 use Rattle.cluster_model.specs.State.{Core, Offer}
 use Rattle.cluster_model.specs.Publishing.{publish_wish, publish_offer, block_of}
 use Rattle.world_state.specs.Kept.{core_of, offer_of}
-use Rattle.world_rounds.proofs.Publishes.{PublishAt, publish_at, own_lock, sent, sent_lock, IsSent}
+use Rattle.world_rounds.proofs.Publishes.{PublishAt, publish_at, own_lock, told_fits}
 use Rattle.world_rounds.proofs.publishing.publish_offer.Goals as goal
 
 pub send_block-requires : goal.send_block-requires
@@ -21,7 +21,7 @@ tell_range-requires c =
     let same = ap (λ (k : Core). k.locks c.args.n) c.send_block.ensures ∙ own_lock (core_of c.args.core.now).locks c.args.n c.args.block.now a.node in
     record {
       node = a.node;
-      range = ?;
+      range = told_fits _ c.in-Range.r c.requires.ready.range.legs.sizes_fit (rw c.in-Range.is at (c.requires.ready.range.legs.offers c.args.n (offer_of c.args.offer.now) c.requires.offers).wish);
       held = ap (λ (lock : Lock). lock.held c.args.n) same ∙ a.held;
       may = subst (λ (lock : Lock). convert_refusal lock c.args.n ≡ None) (sym same) a.range;
     }
