@@ -1,5 +1,5 @@
 -- What an accepted publish has.
-use Rattle.std.proofs.Common.{◌≡◌, ◌<◌, ◌≤◌, ◌==◌, ◌&&◌, ◌||◌, ℕ, Bool, true, false, not, List, [], ◌∷◌, Option, Some, None, refl, sym, ap, ◌∙◌, arith, if◌then◌else◌}
+use Rattle.std.proofs.Common.{◌≡◌, ◌<◌, ◌≤◌, ◌==◌, ◌&&◌, ◌||◌, ℕ, Bool, true, false, not, List, [], ◌∷◌, Option, Some, None, refl, sym, ap, subst, ◌∙◌, arith, if◌then◌else◌}
 use Rattle.std.proofs.lemmas.Bool.Decides.{nat_tests}
 use Rattle.dlm_modes.specs.Points.{with_at}
 use Rattle.dlm_modes.specs.declared.block.Block.{Block}
@@ -9,6 +9,7 @@ use Rattle.dlm_space.specs.Locks.{Lock, convert_refusal}
 use Rattle.mdc_types.specs.declared.events.Event.TheVariants.{Publish, FinishRound}
 use Rattle.mdc_types.specs.declared.numbers.Range.{Range}
 use Rattle.mdc_types.specs.declared.events.Wish.{Wish}
+use Rattle.mdc_types.specs.declared.events.Wish.TheVariants as wishes
 use Rattle.mdc_types.specs.declared.roles.NodeState.TheVariants as states
 use Rattle.node_member.specs.Members.{completed_at}
 use Rattle.cluster_model.specs.Finishing.{adding_after}
@@ -18,14 +19,15 @@ use Rattle.msg_rounds.specs.Holds.{SenderHolds}
 use Rattle.msg_rounds.specs.Locks.{published}
 use Rattle.msg_rounds.specs.Refusals.{is_ex, is_offered, is_granted, publish_refusal, finish_refusal}
 use Rattle.msg_rounds.specs.declared.phases.SenderPhase.{SenderPhase}
+use Rattle.msg_rounds.specs.declared.phases.SenderPhase.TheVariants as senders
 use Rattle.cluster_model.specs.State.{Core, Offer, sizes}
-use Rattle.cluster_model.specs.Changes.{no_new_dev, device_unlocked}
+use Rattle.cluster_model.specs.Changes.{no_new_dev, sender_now, device_unlocked}
 use Rattle.cluster_model.specs.Table.{refusal}
 use Rattle.laws_locks.specs.Others.{writes_slot}
 use Rattle.laws_locks.specs.Rounded.{stands, offering}
 use Rattle.laws_locks.proofs.Guarded.{tested, living}
 use Rattle.laws_locks.proofs.Told.{may_publish, may_finish, no_offer}
-use Rattle.laws_sound.specs.Legs.{WindowFits}
+use Rattle.laws_sound.specs.Legs.{WindowFits, WishFits}
 use Rattle.world_state.specs.Ready.{Ready}
 
 own_slot : (held : Option Mode) (live : Bool) (n : ℕ) (b : Bool) → held ≡ writes_slot (((n == n) && live) || b) → live ≡ true → held ≡ Some PW
@@ -90,9 +92,16 @@ own_lock locks n block lt = by_test (is_ex ((locks no_new_dev).held n)) refl
     by_test true e = rw (e, apart 19 (omega arith), apart 18 (omega arith), apart 17 (omega arith)) refl
     by_test false e = rw (e, apart 18 (omega arith), apart 17 (omega arith)) refl
 
--- a window of the room can be told
-pub told_fits : (g : Sizes) (r : Range) → IsGeometry g → WindowFits g r → IsRange r
+told_fits : (g : Sizes) (r : Range) → IsGeometry g → WindowFits g r → IsRange r
 told_fits g r geometry w = record { hi = omega (arith, w.hi, geometry.room); order = w.order; empty = w.empty }
+
+-- a range that is offered can be told
+pub ranges_fit : (core : Core) (n : ℕ) (o : Offer) → Ready core → core.offer n ≡ Some o → (r : Range) → o.wish ≡ wishes.Range r → IsRange r
+ranges_fit core n o ready is r e = told_fits (sizes core) r ready.range.legs.sizes_fit (subst (WishFits (sizes core)) e (ready.range.legs.offers n o is).wish)
+
+-- the message is published, and EX on `no-new-dev` goes to CR
+abbrev pub sent : Core → ℕ → Block → Core
+sent core n block = record (sender_now core n senders.Published) { locks = device_unlocked (published core.locks n block) n }
 
 -- the events number is completed, and the addition goes on
 abbrev pub completed : Core → ℕ → ℕ → Wish → Core

@@ -159,17 +159,16 @@ fn tell_range(core: &mut CoreState, n: NodeId, r: Range)
     tables::tell_range(&mut core.space, n, r);
 }
 
-// The offer's message is published.
-fn publish_offer(core: &mut CoreState, n: NodeId, offer: &Offer, block: &Block)
-    requires accepted { refusal (core_of core.old) (Event.Publish n) ≡ None }
-    requires ready { Ready (core_of core.old) }
-    requires offers { (core_of core.old).offer n ≡ Some (offer_of offer.now) }
-    requires block { block.now ≡ block_of (core_of core.old) n (offer_of offer.now) }
-    ensures { core_of core.new ≡ publish_offer (core_of core.old) n (Some (offer_of offer.now)) }
+// What a publish does beside its message: a range is told.
+fn publish_wish(core: &mut CoreState, n: NodeId, wish: &Wish)
+    requires node { n < 16 }
+    requires range { (r : Range) → wish.now ≡ Wish.Range r → IsRange r }
+    requires held { ((core_of core.old).locks n).held n ≡ Some Mode.PW }
+    requires may { convert_refusal ((core_of core.old).locks n) n ≡ None }
+    ensures { core_of core.new ≡ publish_wish (core_of core.old) n wish.now }
 {
-    send_block(core, n, block);
-    match offer.wish {
-        Wish::Range(r) => tell_range(core, n, r),
+    match wish {
+        Wish::Range(r) => tell_range(core, n, *r),
         Wish::Meta
         | Wish::Spare(_)
         | Wish::Rebuild(_)
@@ -180,6 +179,18 @@ fn publish_offer(core: &mut CoreState, n: NodeId, offer: &Offer, block: &Block)
         | Wish::Unclean
         | Wish::Grow(_) => {}
     }
+}
+
+// The offer's message is published.
+fn publish_offer(core: &mut CoreState, n: NodeId, offer: &Offer, block: &Block)
+    requires accepted { refusal (core_of core.old) (Event.Publish n) ≡ None }
+    requires ready { Ready (core_of core.old) }
+    requires offers { (core_of core.old).offer n ≡ Some (offer_of offer.now) }
+    requires block { block.now ≡ block_of (core_of core.old) n (offer_of offer.now) }
+    ensures { core_of core.new ≡ publish_offer (core_of core.old) n (Some (offer_of offer.now)) }
+{
+    send_block(core, n, block);
+    publish_wish(core, n, &offer.wish);
 }
 
 /// What the offer says is published to all.

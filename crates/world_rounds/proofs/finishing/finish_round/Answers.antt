@@ -26,4 +26,4 @@ returns-clause-after c =
     ∙ ap (finish_offer (core_of c.args.core.now) c.args.n) c.in-Some.ensures
 
 pub unreachable-requires : goal.unreachable-requires
-unreachable-requires c = (finish_at (core_of c.args.core.now) c.args.n c.requires.accepted c.requires.ready).offers (sym (c.in_default.ensures tt))
+unreachable-requires c = (finish_at (core_of c.args.core.now) c.args.n c.requires.accepted c.requires.ready).offers (sym c.in_default.ensures)

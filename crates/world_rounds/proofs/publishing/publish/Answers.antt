@@ -8,10 +8,7 @@ pub offer-requires : goal.offer-requires
 offer-requires c = (publish_at (core_of c.args.core.now) c.args.n c.requires.accepted c.requires.ready).node
 
 pub unreachable-requires : goal.unreachable-requires
-unreachable-requires c = (publish_at (core_of c.args.core.now) c.args.n c.requires.accepted c.requires.ready).offers (sym (c.in_default.ensures tt))
-
-pub block_of-requires : goal.block_of-requires
-block_of-requires c = (c.requires.ready.messages.offered c.args.n (offer_of c.in-Some.offer) (sym c.in-Some.ensures)).ranges
+unreachable-requires c = (publish_at (core_of c.args.core.now) c.args.n c.requires.accepted c.requires.ready).offers (sym c.in_default.ensures)
 
 pub publish_offer-requires-clause-offers : goal.publish_offer-requires-clause-offers
 publish_offer-requires-clause-offers c = sym c.in-Some.ensures
