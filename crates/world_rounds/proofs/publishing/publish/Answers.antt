@@ -15,3 +15,6 @@ publish_offer-requires-clause-offers c = sym c.in-Some.ensures
 
 pub returns-clause-after : goal.returns-clause-after
 returns-clause-after c = c.publish_offer.ensures ∙ ap (publish_offer (core_of c.args.core.now) c.args.n) c.in-Some.ensures
+
+pub block_of-block-requires : goal.block_of-block-requires
+block_of-block-requires c = (c.requires.ready.messages.offered c.args.n (offer_of c.in-Some.offer) (sym c.in-Some.ensures)).ranges
