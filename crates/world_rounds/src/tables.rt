@@ -7,11 +7,11 @@ ghost use Rattle.cluster_msgs.specs.Ranges.{IsRange};
 ghost use Rattle.cluster_model.specs.Changes.{no_new_dev, device_unlocked};
 ghost use Rattle.cluster_model.specs.Publishing.{range_told};
 ghost use Rattle.mdc_types.specs.Resources.{IsResource, number_of};
-ghost use Rattle.msg_rounds.specs.declared.phases.SenderPhase.TheVariants.{Idle, TokenAsked, TokenHeld, MessageAsked, MessageHeld, Offered, Published, Granted};
+ghost use Rattle.msg_rounds.specs.declared.phases.SenderPhase.TheVariants.{Idle, TokenAsked, TokenHeld, MessageAsked, MessageHeld, Published, Granted};
 ghost use Rattle.msg_rounds.specs.Holds.{NodeHolds, SenderHolds};
 ghost use Rattle.msg_rounds.specs.Locks.{token_asked, message_asked, published, finished, quitted};
 ghost use Rattle.msg_rounds.specs.Phases.{new_receiving, now_in};
-ghost use Rattle.msg_rounds.specs.Refusals.{is_ex, ask_token_refusal, ask_message_refusal, token_granted_refusal, message_granted_refusal, ack_granted_refusal, pr_granted_refusal, offer_refusal, publish_refusal, finish_refusal, quit_refusal};
+ghost use Rattle.msg_rounds.specs.Refusals.{is_ex, ask_token_refusal, ask_message_refusal, token_granted_refusal, message_granted_refusal, ack_granted_refusal, pr_granted_refusal, publish_refusal, finish_refusal, quit_refusal};
 
 use cluster_msgs::write_range;
 use dlm_modes::{Block, Mode};
@@ -113,20 +113,6 @@ pub fn pr_granted(receivers: &mut [Receiver; 16], space: &mut Space, n: NodeId)
 {
     let receiver = &mut receivers[n as usize];
     if receiver.pr_granted(space, n).is_err() {
-        unreachable!()
-    }
-}
-
-/// What the message is to say is settled.
-pub fn offer(senders: &mut [Sender; 16], space: &mut Space, n: NodeId)
-    requires node { n < 16 }
-    requires may { offer_refusal (get_or senders.old n Idle) ≡ None }
-    ensures sender { (λ m. get_or senders.new m Idle) ≡ with_at (λ m. get_or senders.old m Idle) n Offered }
-    ensures sixteen { length senders.new ≡ 16 }
-    ensures locks { locks_of space.new ≡ locks_of space.old }
-{
-    let sender = &mut senders[n as usize];
-    if sender.offer(space, n).is_err() {
         unreachable!()
     }
 }
