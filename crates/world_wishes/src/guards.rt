@@ -1,23 +1,36 @@
 // What a wish may ask of the node that offers it.
-ghost use Rattle.std.specs.Prelude.{◌≡◌, ◌<◌, ◌==◌, ◌&&◌, ◌^◌, not};
-ghost use Rattle.dlm_modes.specs.First.{first_such};
+ghost use Rattle.std.specs.Prelude.{◌≡◌, ◌<◌, ◌==◌, ◌&&◌, ◌^◌, not, OnOk};
 ghost use Rattle.dlm_modes.specs.Guards.{unless};
 ghost use Rattle.mdc_types.specs.Geometry.{nodes_of};
-ghost use Rattle.mdc_types.specs.Roles.{role_of, is_faulty};
+ghost use Rattle.mdc_types.specs.Roles.{is_faulty};
 ghost use Rattle.disk_addition.specs.Wishes.{HasLeg};
 ghost use Rattle.node_member.specs.Members.{first_pending};
 ghost use Rattle.cluster_model.specs.State.{sizes};
-ghost use Rattle.cluster_model.specs.Guards.{refused_by};
+ghost use Rattle.cluster_model.specs.Guards.{refused_by, no_leg};
+ghost use Rattle.leg_failure.specs.Views.{view_of};
 ghost use Rattle.cluster_model.specs.Phases.{copy_is, has_pass, is_none as is_none_word};
 ghost use Rattle.cluster_model.specs.Wishes.{loaded_offers, no_events, meta_needed, holds_device_lock, unsuited, path_cut, other_faulty, has_copied, is_window, may_grow};
 ghost use Rattle.world_state.specs.Kept.{core_of, Judges};
 
 use disk_addition::Addition;
 use dlm_modes::Mode;
+use leg_failure::View;
 use mdc_types::{
-    Geometry, LegId, NodeId, NodeState, Part, Range, Refusal, Res, Role, Roles, Wish, Word,
+    Geometry, LegId, NodeId, NodeState, Part, Range, Refusal, Res, Role, Wish, Word,
 };
 use world_state::{CoreState, check};
+
+/// Refuses a leg that there isn't: the legs are below 8.
+pub fn check_leg(core: &CoreState, l: LegId) -> Result<(), Refusal>
+    ensures judges { Judges result (no_leg (core_of core.now) l) }
+    ensures below { OnOk result (l < 8) }
+{
+    if l < core.identity.geometry.legs() {
+        Ok(())
+    } else {
+        Err(Refusal::NoLeg(l))
+    }
+}
 
 /// A loaded node may only offer `meta`.
 pub fn check_loaded(core: &CoreState, n: NodeId, wish: &Wish) -> Result<(), Refusal>
@@ -96,22 +109,30 @@ pub fn check_recovered(core: &CoreState) -> Result<(), Refusal>
     }
 }
 
-fn is_other_faulty(roles: &Roles, l: LegId, j: LegId) -> bool
+fn is_other_faulty(view: &View, l: LegId, j: LegId) -> bool
     requires { j < 8 }
-    ensures { result ≡ (is_faulty (role_of roles.now j) && not (j == l)) }
+    ensures { result ≡ (is_faulty ((view_of view.now).role j) && not (j == l)) }
 {
-    roles.of(j) == Role::Faulty && j != l
+    view.roles().of(j) == Role::Faulty && j != l
 }
 
-fn other_faulty(roles: &Roles, l: LegId) -> Option<LegId>
-    ensures { result ≡ first_such (λ j. is_faulty (role_of roles.now j) && not (j == l)) 0 8 }
+fn first_other_faulty(view: &View, l: LegId) -> Option<LegId>
+    ensures { result ≡ other_faulty (view_of view.now) l }
 {
     for j in 0..8 {
-        if is_other_faulty(roles, l, j) {
+        if is_other_faulty(view, l, j) {
             return Some(j);
         }
     }
     None
+}
+
+// The first other leg that is faulty.
+fn other_faulty(core: &CoreState, n: NodeId, l: LegId) -> Option<LegId>
+    requires { n < nodes_of core.now.identity.geometry }
+    ensures { result ≡ other_faulty ((core_of core.now).view n) l }
+{
+    first_other_faulty(core.view(n), l)
 }
 
 /// Refuses while another leg is faulty.
@@ -119,7 +140,7 @@ pub fn check_others(core: &CoreState, n: NodeId, l: LegId) -> Result<(), Refusal
     requires { n < nodes_of core.now.identity.geometry }
     ensures { Judges result (refused_by Refusal.Degraded (other_faulty ((core_of core.now).view n) l)) }
 {
-    match other_faulty(core.view(n).roles(), l) {
+    match other_faulty(core, n, l) {
         None => Ok(()),
         Some(j) => Err(Refusal::Degraded(j)),
     }

@@ -1,5 +1,5 @@
 // `offer`: what the message is to say is settled.
-ghost use Rattle.std.specs.Prelude.{◌≡◌, ◌<◌, ◌≤◌, ◌+◌, ◌^◌, ℕ, None, Some, length, get_or, if◌then◌else◌};
+ghost use Rattle.std.specs.Prelude.{◌≡◌, ◌<◌, ◌≤◌, ◌+◌, ◌^◌, ℕ, true, None, Some, length, get_or, if◌then◌else◌};
 ghost use Rattle.dlm_modes.specs.Points.{with_at};
 ghost use Rattle.dlm_space.specs.Parts.{locks_of};
 ghost use Rattle.disk_addition.specs.Wishes.{HasLeg};

@@ -5,6 +5,7 @@ ghost use Rattle.cluster_model.specs.Superblocks.{proposes};
 ghost use Rattle.cluster_model.specs.Table.{refusal};
 ghost use Rattle.world_state.specs.Kept.{core_of, Judges};
 
+use crate::guards::check_leg;
 use crate::offering::is_metadata;
 use mdc_types::{Event, LegId, NodeId, Refusal, Role};
 use msg_rounds::SenderPhase;
@@ -40,7 +41,7 @@ pub fn may_write_super(core: &CoreState, n: NodeId, l: LegId) -> Result<(), Refu
     core.check_node(n)?;
     core.check_unfenced(n)?;
     core.check_live(n)?;
-    core.check_leg(l)?;
+    check_leg(core, l)?;
     let has_offered = matches!(core.sender(n).sender_phase(), SenderPhase::Offered);
     core.check_sender(n, has_offered && offers_metadata(core, n))?;
     check(proposes(core, n, l), Refusal::NotTarget(l))

@@ -1,13 +1,7 @@
-use Rattle.std.proofs.Common.{sym, ◌∙◌, ◌==◌, arith, not, ◌&&◌}
-use Rattle.dlm_modes.proofs.FirstLaws.{first_such_more, first_such_found, first_such_end}
-use Rattle.mdc_types.specs.Roles.{role_of, is_faulty}
+use Rattle.std.proofs.Common.{◌∙◌, ap}
+use Rattle.leg_failure.specs.Views.{NodeView}
+use Rattle.cluster_model.specs.Wishes.{other_faulty}
 use Rattle.world_wishes.proofs.guards.other_faulty.Goals as goal
 
-pub loop-j-preserved : goal.loop-j-preserved
-loop-j-preserved c = c.loop-j.invariant ∙ first_such_more (λ k. is_faulty (role_of c.args.roles.now k) && not (k == c.args.l)) c.loop-j.j 8 (omega arith) (sym c.is_other_faulty.ensures ∙ c.if-is_other_faulty.false)
-
-pub returns-then-is_other_faulty : goal.returns-then-is_other_faulty
-returns-then-is_other_faulty c = sym (c.loop-j.invariant ∙ first_such_found (λ k. is_faulty (role_of c.args.roles.now k) && not (k == c.args.l)) c.loop-j.j 8 (omega arith) (sym c.is_other_faulty.ensures ∙ c.if-is_other_faulty.true))
-
 pub returns : goal.returns
-returns c = sym (c.loop-j.invariant ∙ first_such_end (λ k. is_faulty (role_of c.args.roles.now k) && not (k == c.args.l)) c.loop-j.j 8 (omega arith))
+returns c = c.first_other_faulty.ensures ∙ ap (λ (v : NodeView). other_faulty v c.args.l) c.view.ensures
