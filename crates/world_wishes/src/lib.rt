@@ -7,4 +7,4 @@ mod superblocks;
 mod wishes;
 
 pub use offering::{may_offer, offer};
-pub use superblocks::may_write_super;
+pub use superblocks::{may_write_super, write_super};
