@@ -1,4 +1,5 @@
-pub mod Headers
-pub mod LegLaws
-pub mod NodeLaws
-pub mod Openings
+pub mod Found
+pub mod Points
+pub mod Setting
+mod LegLaws
+pub mod Carrying
