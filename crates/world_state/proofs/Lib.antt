@@ -1,5 +1,7 @@
 pub mod Found
+pub mod SetLaws
 pub mod Points
 pub mod Setting
 mod LegLaws
 pub mod Carrying
+pub mod Changing

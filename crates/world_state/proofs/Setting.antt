@@ -1,5 +1,5 @@
 -- The core after one table's entry was replaced.
-use Rattle.std.proofs.Common.{◌≡◌, ℕ, ◌<◌, ◌==◌, ◌&&◌, if◌then◌else◌, Bool, true, false, List, [], length, ap, refl, sym, ◌∙◌, arith, get_or}
+use Rattle.std.proofs.Common.{◌≡◌, ℕ, ◌<◌, ◌==◌, ◌&&◌, if◌then◌else◌, Bool, true, false, List, [], length, ap, refl, sym, ◌∙◌, arith, get_or, replicate, zero, suc}
 use Rattle.std.proofs.Math.Path.{fun_ext}
 use Rattle.std.proofs.lemmas.Bool.Decides.{nat_tests}
 use Rattle.std.specs.Prelude.{slice_set, Option, Some, None}
@@ -15,7 +15,10 @@ use Rattle.msg_rounds.specs.declared.phases.SenderPhase.TheVariants.{Idle}
 use Rattle.cluster_msgs.specs.declared.msg.Msg.{Msg}
 use Rattle.suspend_ranges.specs.Suspended.{ranges_of}
 use Rattle.mdc_types.specs.declared.numbers.Range.{Range}
-use Rattle.world_state.specs.Kept.{Kept, core_of, no_parts, offer_of}
+use Rattle.cluster_model.specs.State as machine
+use Rattle.world_state.specs.Kept.{Kept, core_of, no_parts, offer_of, tried_of}
+use Rattle.world_state.specs.declared.attempt.Attempt.{Attempt}
+use Rattle.world_state.specs.declared.attempt.Attempt.TheVariants.{Untried}
 use Rattle.world_state.specs.declared.offer.Offer.{Offer}
 use Rattle.world_state.proofs.Points.{point-set, get-set}
 
@@ -56,3 +59,21 @@ module _ (k : Kept) (n : ℕ) where
       → core_of (record k { heads = slice_set k.heads n (slice_set xs l s) }) ≡ headed (core_of k) n l (Some s)
   head_set l s xs e lt lt_l = ap (λ f. record (core_of k) { head = f }) (fun_ext (λ m. fun_ext (λ j.
       ap (λ ys. get_or ys j 0) (get-set k.heads n m (slice_set xs l s) [] lt) ∙ headed_at l s m j xs (m == n) refl lt_l (sym e))))
+
+  -- the ranges that a node's writes wait for
+  pub suspended_set : (v : List (Option Range)) → n < length k.suspended
+      → core_of (record k { suspended = slice_set k.suspended n v }) ≡ record (core_of k) { suspended = with_at (core_of k).suspended n (ranges_of v) }
+  suspended_set v lt = ap (λ f. record (core_of k) { suspended = f }) (point-set ranges_of k.suspended n v [] lt)
+
+  -- what a joining node has of the legs
+  pub tries_set : (v : List Attempt) → n < length k.tried
+      → core_of (record k { tried = slice_set k.tried n v }) ≡ record (core_of k) { tried = with_at (core_of k).tried n (λ l. tried_of (get_or v l Untried)) }
+  tries_set v lt = ap (λ f. record (core_of k) { tried = f }) (point-set (λ xs l. tried_of (get_or xs l Untried)) k.tried n v [] lt)
+
+all_untried : (count l : ℕ) → tried_of (get_or (replicate count Untried) l Untried) ≡ machine.Untried
+all_untried zero l = refl
+all_untried (suc count) zero = refl
+all_untried (suc count) (suc l) = all_untried count l
+
+pub eight_untried : ◌≡◌ {A = ℕ → machine.Tried} (λ l. tried_of (get_or (replicate 8 Untried) l Untried)) (λ l. machine.Untried)
+eight_untried = fun_ext (all_untried 8)

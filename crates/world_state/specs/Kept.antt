@@ -117,6 +117,7 @@ pub record IsWhole (k : Kept) : Type 0 where
   pub senders : length k.senders ≡ 16
   pub receivers : length k.receivers ≡ 16
   pub suspended : length k.suspended ≡ 16
+  pub tried : length k.tried ≡ 16
   pub bitmaps : k.bitmaps.sizes ≡ k.identity.geometry
   pub copies : k.copies.sizes ≡ k.identity.geometry
   pub recoveries : k.recoveries.sizes ≡ k.identity.geometry

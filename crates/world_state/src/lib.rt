@@ -7,6 +7,7 @@ mod changes;
 mod checks;
 mod legs;
 mod offer;
+mod sets;
 mod setters;
 mod state;
 
@@ -14,4 +15,5 @@ pub use attempt::Attempt;
 pub use checks::check;
 pub use legs::{receive, send};
 pub use offer::Offer;
+pub use sets::{fresh_targets, rebuilding_of};
 pub use state::CoreState;

@@ -3,13 +3,16 @@ ghost use Rattle.std.specs.Prelude.{◌≡◌, ◌<◌};
 ghost use Rattle.std.specs.Option.{option_map};
 ghost use Rattle.dlm_modes.specs.Points.{with_at};
 ghost use Rattle.leg_failure.specs.Views.{view_of};
+ghost use Rattle.suspend_ranges.specs.Suspended.{ranges_of};
+ghost use Rattle.cluster_model.specs.State.{Untried};
 ghost use Rattle.world_state.specs.Kept.{core_of, offer_of};
 
-use crate::{CoreState, Offer};
+use crate::{Attempt, CoreState, Offer};
 use cluster_msgs::Msg;
 use leg_failure::View;
 use mdc_types::{NodeId, NodeState};
 use msg_rounds::{Receiver, Sender};
+use suspend_ranges::SuspendList;
 
 impl CoreState {
     /// The node's state.
@@ -64,5 +67,23 @@ impl CoreState {
         ensures { core_of self.new ≡ record (core_of self.old) { heard = with_at (core_of self.old).heard n heard } }
     {
         self.heard[n as usize] = heard;
+    }
+
+    /// The ranges that the node's writes wait for.
+    #[tactic(auto, using(crate::proofs::Setting::suspended_set))]
+    pub fn set_suspended(&mut self, n: NodeId, ranges: SuspendList)
+        requires { n < 16 }
+        ensures { core_of self.new ≡ record (core_of self.old) { suspended = with_at (core_of self.old).suspended n (ranges_of ranges) } }
+    {
+        self.suspended[n as usize] = ranges;
+    }
+
+    /// No leg was tried.
+    #[tactic(auto, using(crate::proofs::Setting::tries_set, crate::proofs::Setting::eight_untried))]
+    pub fn forget_tries(&mut self, n: NodeId)
+        requires { n < 16 }
+        ensures { core_of self.new ≡ record (core_of self.old) { tried = with_at (core_of self.old).tried n (λ l. Untried) } }
+    {
+        self.tried[n as usize] = [Attempt::Untried; 8];
     }
 }
