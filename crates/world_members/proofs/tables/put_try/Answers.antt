@@ -1,4 +1,4 @@
-use Rattle.std.proofs.Common.{arith, ◌∙◌}
+use Rattle.std.proofs.Common.{arith}
 use Rattle.world_members.proofs.Replacing.{tries-put_at}
 use Rattle.world_members.proofs.tables.put_try.Goals as goal
 
