@@ -1,5 +1,5 @@
 -- What is read of tables that are changed at one node.
-use Rattle.std.proofs.Common.{◌≡◌, ◌<◌, ◌≤◌, ◌+◌, ◌==◌, ◌&&◌, ◌||◌, ℕ, zero, suc, Bool, true, false, List, [], ◌∷◌, length, set, Option, Some, None, refl, sym, ap, ◌∙◌, arith, if◌then◌else◌}
+use Rattle.std.proofs.Common.{◌≡◌, ◌<◌, ◌≤◌, ◌+◌, ◌==◌, ◌&&◌, ℕ, zero, suc, Bool, true, false, List, [], ◌∷◌, length, set, Option, None, refl, sym, ap, ◌∙◌, subst, arith, if◌then◌else◌}
 use Rattle.std.specs.Prelude.{get_or, nat_lt}
 use Rattle.std.proofs.lemmas.Bool.Decides.{nat_tests}
 use Rattle.std.proofs.lemmas.List.{get_or_default, get_or_past}
@@ -45,6 +45,12 @@ pub tries-put : (tried : List (List Attempt)) (n l : ℕ) (d new : List Attempt)
 tries-put tried n l d new v lt below e = fun_ext (λ m. fun_ext (λ j.
     ap (λ ys. tries_of ys j) (get-set tried n m new [] lt ∙ ap (λ ys. if m == n then ys else get_or tried m []) e)
     ∙ try_from n l m j (get_or tried n d) [] (get_or tried m []) v (m == n) refl below (λ same. ap (λ i. get_or tried i []) same ∙ sym (get_or_default tried n d [] lt))))
+
+pub tries-put_at : (tried : List (List Attempt)) (n l : ℕ) (got new : List Attempt) (v : Attempt) → n < length tried
+    → got ≡ get_or tried n got → l < length got → new ≡ set got l v
+    → all_tries (set tried n new) ≡ (λ m k. if (m == n) && (k == l) then tried_of v else all_tries tried m k)
+tries-put_at tried n l got new v lt is below e =
+    tries-put tried n l got new v lt (subst (λ xs. l < length xs) is below) (e ∙ ap (λ xs. set xs l v) is)
 
 -- suspended ranges
 

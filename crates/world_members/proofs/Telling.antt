@@ -1,20 +1,19 @@
 -- What a row tells whose guards refuse nothing: no call that it makes is refused.
-use Rattle.std.proofs.Common.{◌≡◌, ◌≢◌, ◌<◌, ◌≤◌, ◌==◌, ◌&&◌, ℕ, Bool, true, false, not, List, [], ◌∷◌, Option, Some, None, refl, sym, ap, ◌∙◌, arith, if◌then◌else◌}
+use Rattle.std.proofs.Common.{◌≡◌, ◌<◌, ◌≤◌, ◌==◌, ℕ, Bool, true, false, not, List, [], ◌∷◌, Option, Some, None, refl, sym, ap, ◌∙◌, arith, if◌then◌else◌}
 use Rattle.std.specs.Prelude.{is_some, nat_lt, IfSome, length, get_or}
 use Rattle.std.proofs.lemmas.Bool.Decides.{nat_tests}
 use Rattle.dlm_modes.specs.Guards.{unless, or_then, first_of}
 use Rattle.dlm_modes.specs.Points.{with_at}
-use Rattle.mdc_types.specs.declared.events.Event.{Event}
 use Rattle.mdc_types.specs.declared.events.Event.TheVariants as events
 use Rattle.mdc_types.specs.declared.refusals.Refusal.TheVariants.{NotUp}
 use Rattle.mdc_types.specs.declared.roles.NodeState.{NodeState}
 use Rattle.mdc_types.specs.declared.roles.NodeState.TheVariants as states
 use Rattle.dlm_space.specs.Locks.{Lock, caller}
-use Rattle.node_member.specs.Members.{Members, fenced, join_refusal, die_refusal}
+use Rattle.node_member.specs.Members.{fenced, join_refusal, die_refusal}
 use Rattle.msg_rounds.specs.Holds.{SenderHolds, ReceiverHolds}
 use Rattle.msg_rounds.specs.Locks.{token_res, message_res, ack_res}
-use Rattle.msg_rounds.specs.Phases.{Receiving, is_idle, has_published}
-use Rattle.msg_rounds.specs.Refusals.{ask_token_refusal, take_refusal, processed_refusal, resume_refusal, drop_refusal, is_taken, is_pr, may_resume}
+use Rattle.msg_rounds.specs.Phases.{is_idle, has_published}
+use Rattle.msg_rounds.specs.Refusals.{take_refusal, processed_refusal, resume_refusal, drop_refusal, is_taken, is_pr, may_resume}
 use Rattle.msg_rounds.specs.declared.phases.SenderPhase.{SenderPhase}
 use Rattle.msg_rounds.specs.declared.phases.SenderPhase.TheVariants as senders
 use Rattle.msg_rounds.specs.declared.phases.ReceiverPhase.{ReceiverPhase}
@@ -27,12 +26,12 @@ use Rattle.cluster_model.specs.State.{Core, sizes}
 use Rattle.cluster_model.specs.Transfers.{reads_from}
 use Rattle.world_state.specs.Ready.{Ready}
 use Rattle.world_state.specs.Told.{Fits}
-use Rattle.cluster_model.specs.Guards.{no_node, not_fenced, no_leg, is_out}
+use Rattle.cluster_model.specs.Guards.{no_node, is_out}
 use Rattle.cluster_model.specs.Phases.{is_up}
 use Rattle.cluster_model.specs.Table.{refusal}
 use Rattle.laws_locks.specs.Rounded.{Rounded}
 use Rattle.laws_sound.specs.Laws.{MessagesRead}
-use Rattle.laws_locks.proofs.Guarded.{first_none, unless_none, tested, a_node, living}
+use Rattle.laws_locks.proofs.Guarded.{first_none, tested, a_node, living}
 use Rattle.laws_locks.proofs.Told.{not_live}
 
 both : {R : Type 0} (a b : Bool) (r s : R) → a ≡ true → b ≡ true → or_then (unless a r) (unless b s) ≡ None

@@ -62,8 +62,9 @@ fn check_tried(core: &CoreState, n: NodeId) -> Result<(), Refusal>
     }
 }
 
+// The greatest events number that it read.
 fn greatest(core: &CoreState, n: NodeId) -> u64
-    requires { n < nodes_of core.now.identity.geometry }
+    requires { n < 16 }
     ensures { result ≡ greatest ((core_of core.now).tried n) }
 {
     newest::greatest(&core.tried[n as usize])

@@ -39,14 +39,15 @@ fn put_attempt(tried: &mut [Attempt; 8], l: LegId, attempt: Attempt)
 }
 
 /// What the node has of the leg's superblock.
-pub fn put_try(tried: &mut [[Attempt; 8]; 16], n: NodeId, l: LegId, attempt: Attempt)
-    requires node { n < 16 }
+pub fn put_try(tried: &mut Vec<[Attempt; 8]>, n: NodeId, l: LegId, attempt: Attempt)
+    requires node { n < length tried.old.items }
     requires leg { l < 8 }
-    ensures tries { all_tries tried.new ≡ (λ m k. if (m == n) && (k == l) then tried_of attempt
-        else all_tries tried.old m k) }
-    ensures size { length tried.new ≡ 16 }
+    ensures tries { all_tries tried.new.items ≡ (λ m k. if (m == n) && (k == l)
+        then tried_of attempt else all_tries tried.old.items m k) }
+    ensures size { length tried.new.items ≡ length tried.old.items }
 {
-    put_attempt(&mut tried[n as usize], l, attempt);
+    let attempts = &mut tried[n as usize];
+    put_attempt(attempts, l, attempt);
 }
 
 /// The owner's range is suspended at the node.

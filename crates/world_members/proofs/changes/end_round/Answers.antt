@@ -1,4 +1,4 @@
-use Rattle.std.proofs.Common.{◌≡◌, ap, subst}
+use Rattle.std.proofs.Common.{◌≡◌, subst}
 use Rattle.world_members.specs.Changes.{round_over}
 use Rattle.world_state.specs.contracts.state.CoreState.{the_view}
 use Rattle.world_state.specs.Kept.{Kept, core_of}

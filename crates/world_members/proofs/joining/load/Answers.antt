@@ -1,4 +1,4 @@
-use Rattle.std.proofs.Common.{◌≡◌, map, refl, sym, ap, ◌∙◌, arith, List}
+use Rattle.std.proofs.Common.{◌≡◌, map, refl, sym, ap, ◌∙◌, arith}
 use Rattle.std.proofs.lemmas.List.{length-map}
 use Rattle.mdc_types.specs.declared.events.Event.TheVariants.{Load}
 use Rattle.mdc_types.specs.declared.outcomes.Outcome.TheVariants.{Unread}

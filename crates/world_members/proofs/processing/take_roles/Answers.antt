@@ -1,5 +1,5 @@
 use Rattle.std.proofs.Common.{ap, ◌∙◌}
-use Rattle.leg_failure.specs.Views.{view_of, NodeView}
+use Rattle.leg_failure.specs.Views.{view_of}
 use Rattle.cluster_model.specs.Changes.{with_view}
 use Rattle.world_members.specs.Changes.{addition_over, device_kept}
 use Rattle.world_state.specs.Kept.{core_of}

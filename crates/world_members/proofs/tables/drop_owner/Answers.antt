@@ -6,7 +6,7 @@ use Rattle.world_members.proofs.tables.drop_owner.Goals as goal
 pub loop-list-preserved : goal.loop-list-preserved
 loop-list-preserved c = record {
   dropped =
-    owner_dropped c.args.lists.now c.loop-list.lists c.loop-list.list-index c.args.o _ c.drop_owner.new.self (omega arith) c.loop-list.invariant.dropped c.drop_owner.ensures;
+      owner_dropped c.args.lists.now c.loop-list.lists c.loop-list.list-index c.args.o _ c.drop_owner.new.self (omega arith) c.loop-list.invariant.dropped c.drop_owner.ensures;
   size = length-set c.loop-list.lists c.loop-list.list-index c.drop_owner.new.self ∙ c.loop-list.invariant.size;
 }
 
