@@ -39,7 +39,9 @@ fn let_go_round(core: &mut CoreState, n: NodeId)
     requires node { n < 16 }
     requires holds { SenderHolds (core_of core.old).locks n ((core_of core.old).sender n) }
     requires may { finish_refusal ((core_of core.old).sender n) ≡ None }
-    ensures { core_of core.new ≡ record (sender_now (core_of core.old) n SenderPhase.Idle) { locks = finished (core_of core.old).locks n } }
+    ensures { core_of core.new
+        ≡ record (sender_now (core_of core.old) n SenderPhase.Idle) { locks = finished
+        (core_of core.old).locks n } }
 {
     tables::finish(&mut core.senders, &mut core.space, n);
 }
@@ -58,7 +60,8 @@ fn end_round(core: &mut CoreState, n: NodeId)
 // The window of the range is open.
 fn open_window(core: &mut CoreState, n: NodeId, offer: &Offer, r: Range)
     requires { n < 16 }
-    ensures { core_of core.new ≡ finish_wish (core_of core.old) n (offer_of offer.now) (Wish.Range r) }
+    ensures { core_of core.new
+        ≡ finish_wish (core_of core.old) n (offer_of offer.now) (Wish.Range r) }
 {
     let window = if r.lo < r.hi { Some(r) } else { None };
     core.copies.open_window(n, window);
@@ -76,7 +79,8 @@ fn change_addition(core: &mut CoreState, n: NodeId, wish: &Wish)
 fn leave_unclean(core: &mut CoreState, n: NodeId, offer: &Offer)
     requires node { n < 16 }
     requires live { (core_of core.old).members.live n ≡ true }
-    ensures { core_of core.new ≡ finish_wish (core_of core.old) n (offer_of offer.now) Wish.Unclean }
+    ensures { core_of core.new
+        ≡ finish_wish (core_of core.old) n (offer_of offer.now) Wish.Unclean }
 {
     core.node_out(n);
     leave(core, n, false);
@@ -87,7 +91,8 @@ fn complete(core: &mut CoreState, n: NodeId, offer: &Offer)
     requires { n < 16 }
     ensures { core_of core.new ≡ record (core_of core.old) {
       members = completed_at (core_of core.old).members offer.now.events;
-      adding = with_at (core_of core.old).adding n (adding_after ((core_of core.old).adding n) offer.now.wish);
+      adding = with_at (core_of core.old).adding n (adding_after
+        ((core_of core.old).adding n) offer.now.wish);
     } }
 {
     core.members.complete(offer.events);
@@ -97,7 +102,8 @@ fn complete(core: &mut CoreState, n: NodeId, offer: &Offer)
 // The node's view with the proposed roles and size, which all know.
 fn finished_view(core: &CoreState, n: NodeId, offer: &Offer) -> View
     requires { n < 16 }
-    ensures { view_of result ≡ finished_view ((core_of core.now).view n) (role_of offer.now.roles) offer.now.size }
+    ensures { view_of result
+        ≡ finished_view ((core_of core.now).view n) (role_of offer.now.roles) offer.now.size }
 {
     let mut view = core.views[n as usize];
     view.finish(&offer.roles, offer.size);
@@ -119,7 +125,8 @@ fn change_superblock(core: &mut CoreState, n: NodeId, offer: &Offer)
 fn finish_wish(core: &mut CoreState, n: NodeId, offer: &Offer)
     requires node { n < 16 }
     requires live { (core_of core.old).members.live n ≡ true }
-    ensures { core_of core.new ≡ finish_wish (core_of core.old) n (offer_of offer.now) offer.now.wish }
+    ensures { core_of core.new
+        ≡ finish_wish (core_of core.old) n (offer_of offer.now) offer.now.wish }
 {
     match offer.wish {
         Wish::Range(r) => open_window(core, n, offer, r),

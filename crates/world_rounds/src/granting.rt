@@ -33,8 +33,10 @@ fn mode_of(space: &Space, res: Res, n: NodeId) -> Mode
 fn may_serve(space: &Space, res: Res) -> Result<(), Refusal>
     requires { IsResource res }
     ensures { Judges result (first_of (
-        found_or (head (locks_of space.now (number_of res)).conversions (locks_of space.now (number_of res)).requests) (Refusal.NothingAsked res)
-        ∷ not_grantable (locks_of space.now (number_of res)) (head (locks_of space.now (number_of res)).conversions (locks_of space.now (number_of res)).requests)
+        found_or (head (locks_of space.now (number_of res)).conversions (locks_of space.now
+        (number_of res)).requests) (Refusal.NothingAsked res)
+        ∷ not_grantable (locks_of space.now (number_of res)) (head (locks_of space.now
+        (number_of res)).conversions (locks_of space.now (number_of res)).requests)
         ∷ [])) }
 {
     let Some((node, mode)) = space.head(res.number()) else {

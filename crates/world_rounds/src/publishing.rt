@@ -64,7 +64,8 @@ pub fn check_reads_nothing(core: &CoreState, n: NodeId) -> Result<(), Refusal>
 // The proposed roles want the leg written, and it doesn't have the proposed superblock.
 fn is_unwritten(offer: &Offer, l: LegId) -> bool
     requires { l < 8 }
-    ensures { result ≡ (is_written (role_of offer.now.roles l) && not (has_bit offer.now.written l)) }
+    ensures { result ≡ (is_written (role_of offer.now.roles l) && not
+        (has_bit offer.now.written l)) }
 {
     matches!(offer.roles.of(l), Role::Working | Role::Rebuilding) && !has_leg(offer.written, l)
 }
@@ -93,7 +94,8 @@ fn check_written(offer: &Offer) -> Result<(), Refusal>
 // What the offer asks before it is published.
 fn check_due(core: &CoreState, n: NodeId, offer: &Offer) -> Result<(), Refusal>
     requires { n < nodes_of core.now.identity.geometry }
-    ensures { Judges result (first_of (wish_is_due (core_of core.now) n (offer_of offer.now) offer.now.wish)) }
+    ensures { Judges result (first_of (wish_is_due (core_of core.now) n
+        (offer_of offer.now) offer.now.wish)) }
 {
     match offer.wish {
         Wish::Range(r) => check_drained_in(core, n, r),
@@ -128,7 +130,8 @@ fn send_block(core: &mut CoreState, n: NodeId, block: &Block)
     requires node { n < 16 }
     requires holds { SenderHolds (core_of core.old).locks n ((core_of core.old).sender n) }
     requires may { publish_refusal ((core_of core.old).sender n) ≡ None }
-    requires unlock { is_ex (((core_of core.old).locks no_new_dev).held n) ≡ true → convert_refusal ((core_of core.old).locks no_new_dev) n ≡ None }
+    requires unlock { is_ex (((core_of core.old).locks no_new_dev).held n) ≡ true
+        → convert_refusal ((core_of core.old).locks no_new_dev) n ≡ None }
     ensures { core_of core.new ≡ record (sender_now (core_of core.old) n SenderPhase.Published) {
       locks = device_unlocked (published (core_of core.old).locks n block.now) n;
     } }
@@ -140,7 +143,9 @@ fn send_block(core: &mut CoreState, n: NodeId, block: &Block)
 #[tactic(auto, using(crate::proofs::Saying::range_put))]
 fn put_range(suspended: &mut [SuspendList; 16], n: NodeId, r: Range)
     requires { n < 16 }
-    ensures ranges { ◌≡◌ {A = ℕ → ℕ → Option Range} (λ m. ranges_of (get_or suspended.new m [])) (λ m owner. if (m == n) && (owner == n) then entry_of r else ranges_of (get_or suspended.old m []) owner) }
+    ensures ranges { ◌≡◌ {A = ℕ → ℕ
+        → Option Range} (λ m. ranges_of (get_or suspended.new m [])) (λ m owner. if (m == n) &&
+        (owner == n) then entry_of r else ranges_of (get_or suspended.old m []) owner) }
     ensures sixteen { length suspended.new ≡ 16 }
 {
     suspended[n as usize].put(n, r);

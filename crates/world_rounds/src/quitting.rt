@@ -39,7 +39,8 @@ fn give_up(core: &mut CoreState, n: NodeId)
     requires node { n < 16 }
     requires holds { SenderHolds (core_of core.old).locks n ((core_of core.old).sender n) }
     requires may { quit_refusal ((core_of core.old).sender n) ≡ None }
-    requires unlock { is_ex (((core_of core.old).locks no_new_dev).held n) ≡ true → convert_refusal ((core_of core.old).locks no_new_dev) n ≡ None }
+    requires unlock { is_ex (((core_of core.old).locks no_new_dev).held n) ≡ true
+        → convert_refusal ((core_of core.old).locks no_new_dev) n ≡ None }
     ensures { core_of core.new ≡ record (sender_now (core_of core.old) n SenderPhase.Idle) {
       locks = device_unlocked (quitted (core_of core.old).locks n ((core_of core.old).sender n)) n;
     } }

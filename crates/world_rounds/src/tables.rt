@@ -1,5 +1,5 @@
 // What the calls of a round do to the tables of senders and of locks.
-ghost use Rattle.std.specs.Prelude.{◌≡◌, ◌<◌, ℕ, true, is_none, is_some, Some, None, length, get_or};
+ghost use Rattle.std.specs.Prelude.{◌≡◌, ◌<◌, ℕ, true, is_none, is_some, Some, None, length};
 ghost use Rattle.dlm_modes.specs.Points.{with_at};
 ghost use Rattle.dlm_space.specs.Locks.{holding, ask_now_refusal, convert_refusal, convert_now_refusal, granted, grant_refusal};
 ghost use Rattle.dlm_space.specs.Parts.{locks_of};
@@ -10,7 +10,8 @@ ghost use Rattle.mdc_types.specs.Resources.{IsResource, number_of};
 ghost use Rattle.msg_rounds.specs.declared.phases.SenderPhase.TheVariants.{Idle, TokenAsked, TokenHeld, MessageAsked, MessageHeld, Published, Granted};
 ghost use Rattle.msg_rounds.specs.Holds.{NodeHolds, SenderHolds};
 ghost use Rattle.msg_rounds.specs.Locks.{token_asked, message_asked, published, finished, quitted};
-ghost use Rattle.msg_rounds.specs.Phases.{new_receiving, now_in};
+ghost use Rattle.msg_rounds.specs.Phases.{now_in};
+ghost use Rattle.world_rounds.specs.Tables.{senders_of, receivers_of};
 ghost use Rattle.msg_rounds.specs.Refusals.{is_ex, ask_token_refusal, ask_message_refusal, token_granted_refusal, message_granted_refusal, ack_granted_refusal, pr_granted_refusal, publish_refusal, finish_refusal, quit_refusal};
 
 use cluster_msgs::write_range;
@@ -27,9 +28,10 @@ pub fn ask_token(
     n: NodeId,
 )
     requires node { n < 16 }
-    requires holds { SenderHolds (locks_of space.old) n (get_or senders.old n Idle) }
-    requires may { ask_token_refusal (get_or senders.old n Idle) (get_or receivers.now n new_receiving).phase ≡ None }
-    ensures sender { (λ m. get_or senders.new m Idle) ≡ with_at (λ m. get_or senders.old m Idle) n TokenAsked }
+    requires holds { SenderHolds (locks_of space.old) n (senders_of senders.old n) }
+    requires may { ask_token_refusal (senders_of senders.old n)
+        (receivers_of receivers.now n).phase ≡ None }
+    ensures sender { senders_of senders.new ≡ with_at (senders_of senders.old) n TokenAsked }
     ensures sixteen { length senders.new ≡ 16 }
     ensures locks { locks_of space.new ≡ token_asked (locks_of space.old) n }
 {
@@ -48,9 +50,11 @@ pub fn ask_message(
     n: NodeId,
 )
     requires node { n < 16 }
-    requires holds { NodeHolds (locks_of space.old) n (get_or senders.old n Idle) (get_or receivers.now n new_receiving).phase }
-    requires may { ask_message_refusal (get_or senders.old n Idle) (get_or receivers.now n new_receiving).phase ≡ None }
-    ensures sender { (λ m. get_or senders.new m Idle) ≡ with_at (λ m. get_or senders.old m Idle) n MessageAsked }
+    requires holds { NodeHolds (locks_of space.old) n (senders_of senders.old n)
+        (receivers_of receivers.now n).phase }
+    requires may { ask_message_refusal (senders_of senders.old n)
+        (receivers_of receivers.now n).phase ≡ None }
+    ensures sender { senders_of senders.new ≡ with_at (senders_of senders.old) n MessageAsked }
     ensures sixteen { length senders.new ≡ 16 }
     ensures locks { locks_of space.new ≡ message_asked (locks_of space.old) n }
 {
@@ -64,8 +68,8 @@ pub fn ask_message(
 /// The token is granted to the node.
 pub fn token_granted(senders: &mut [Sender; 16], space: &mut Space, n: NodeId)
     requires node { n < 16 }
-    requires may { token_granted_refusal (locks_of space.old) n (get_or senders.old n Idle) ≡ None }
-    ensures sender { (λ m. get_or senders.new m Idle) ≡ with_at (λ m. get_or senders.old m Idle) n TokenHeld }
+    requires may { token_granted_refusal (locks_of space.old) n (senders_of senders.old n) ≡ None }
+    ensures sender { senders_of senders.new ≡ with_at (senders_of senders.old) n TokenHeld }
     ensures sixteen { length senders.new ≡ 16 }
     ensures locks { locks_of space.new ≡ locks_of space.old }
 {
@@ -78,8 +82,9 @@ pub fn token_granted(senders: &mut [Sender; 16], space: &mut Space, n: NodeId)
 /// EX on `message` is granted to the node.
 pub fn message_granted(senders: &mut [Sender; 16], space: &mut Space, n: NodeId)
     requires node { n < 16 }
-    requires may { message_granted_refusal (locks_of space.old) n (get_or senders.old n Idle) ≡ None }
-    ensures sender { (λ m. get_or senders.new m Idle) ≡ with_at (λ m. get_or senders.old m Idle) n MessageHeld }
+    requires may { message_granted_refusal (locks_of space.old) n (senders_of senders.old n)
+        ≡ None }
+    ensures sender { senders_of senders.new ≡ with_at (senders_of senders.old) n MessageHeld }
     ensures sixteen { length senders.new ≡ 16 }
     ensures locks { locks_of space.new ≡ locks_of space.old }
 {
@@ -92,8 +97,8 @@ pub fn message_granted(senders: &mut [Sender; 16], space: &mut Space, n: NodeId)
 /// EX on `ack` is granted to the node.
 pub fn ack_granted(senders: &mut [Sender; 16], space: &mut Space, n: NodeId)
     requires node { n < 16 }
-    requires may { ack_granted_refusal (locks_of space.old) n (get_or senders.old n Idle) ≡ None }
-    ensures sender { (λ m. get_or senders.new m Idle) ≡ with_at (λ m. get_or senders.old m Idle) n Granted }
+    requires may { ack_granted_refusal (locks_of space.old) n (senders_of senders.old n) ≡ None }
+    ensures sender { senders_of senders.new ≡ with_at (senders_of senders.old) n Granted }
     ensures sixteen { length senders.new ≡ 16 }
     ensures locks { locks_of space.new ≡ locks_of space.old }
 {
@@ -106,8 +111,10 @@ pub fn ack_granted(senders: &mut [Sender; 16], space: &mut Space, n: NodeId)
 /// PR on `message` is granted to the node.
 pub fn pr_granted(receivers: &mut [Receiver; 16], space: &mut Space, n: NodeId)
     requires node { n < 16 }
-    requires may { pr_granted_refusal (locks_of space.old) n (get_or receivers.old n new_receiving) ≡ None }
-    ensures receiver { (λ m. get_or receivers.new m new_receiving) ≡ with_at (λ m. get_or receivers.old m new_receiving) n (now_in ReceiverPhase.Ready (get_or receivers.old n new_receiving)) }
+    requires may { pr_granted_refusal (locks_of space.old) n (receivers_of receivers.old n) ≡ None }
+    ensures receiver { receivers_of receivers.new
+        ≡ with_at (receivers_of receivers.old) n (now_in ReceiverPhase.Ready
+        (receivers_of receivers.old n)) }
     ensures sixteen { length receivers.new ≡ 16 }
     ensures locks { locks_of space.new ≡ locks_of space.old }
 {
@@ -120,9 +127,9 @@ pub fn pr_granted(receivers: &mut [Receiver; 16], space: &mut Space, n: NodeId)
 /// The message is published.
 pub fn publish(senders: &mut [Sender; 16], space: &mut Space, n: NodeId, block: &Block)
     requires node { n < 16 }
-    requires holds { SenderHolds (locks_of space.old) n (get_or senders.old n Idle) }
-    requires may { publish_refusal (get_or senders.old n Idle) ≡ None }
-    ensures sender { (λ m. get_or senders.new m Idle) ≡ with_at (λ m. get_or senders.old m Idle) n Published }
+    requires holds { SenderHolds (locks_of space.old) n (senders_of senders.old n) }
+    requires may { publish_refusal (senders_of senders.old n) ≡ None }
+    ensures sender { senders_of senders.new ≡ with_at (senders_of senders.old) n Published }
     ensures sixteen { length senders.new ≡ 16 }
     ensures locks { locks_of space.new ≡ published (locks_of space.old) n block.now }
 {
@@ -135,9 +142,9 @@ pub fn publish(senders: &mut [Sender; 16], space: &mut Space, n: NodeId, block: 
 /// The round is over.
 pub fn finish(senders: &mut [Sender; 16], space: &mut Space, n: NodeId)
     requires node { n < 16 }
-    requires holds { SenderHolds (locks_of space.old) n (get_or senders.old n Idle) }
-    requires may { finish_refusal (get_or senders.old n Idle) ≡ None }
-    ensures sender { (λ m. get_or senders.new m Idle) ≡ with_at (λ m. get_or senders.old m Idle) n Idle }
+    requires holds { SenderHolds (locks_of space.old) n (senders_of senders.old n) }
+    requires may { finish_refusal (senders_of senders.old n) ≡ None }
+    ensures sender { senders_of senders.new ≡ with_at (senders_of senders.old) n Idle }
     ensures sixteen { length senders.new ≡ 16 }
     ensures locks { locks_of space.new ≡ finished (locks_of space.old) n }
 {
@@ -150,11 +157,11 @@ pub fn finish(senders: &mut [Sender; 16], space: &mut Space, n: NodeId)
 /// The round is given up.
 pub fn quit(senders: &mut [Sender; 16], space: &mut Space, n: NodeId)
     requires node { n < 16 }
-    requires holds { SenderHolds (locks_of space.old) n (get_or senders.old n Idle) }
-    requires may { quit_refusal (get_or senders.old n Idle) ≡ None }
-    ensures sender { (λ m. get_or senders.new m Idle) ≡ with_at (λ m. get_or senders.old m Idle) n Idle }
+    requires holds { SenderHolds (locks_of space.old) n (senders_of senders.old n) }
+    requires may { quit_refusal (senders_of senders.old n) ≡ None }
+    ensures sender { senders_of senders.new ≡ with_at (senders_of senders.old) n Idle }
     ensures sixteen { length senders.new ≡ 16 }
-    ensures locks { locks_of space.new ≡ quitted (locks_of space.old) n (get_or senders.old n Idle) }
+    ensures locks { locks_of space.new ≡ quitted (locks_of space.old) n (senders_of senders.old n) }
 {
     let sender = &mut senders[n as usize];
     let Ok(()) = sender.quit(space, n) else {
@@ -165,7 +172,8 @@ pub fn quit(senders: &mut [Sender; 16], space: &mut Space, n: NodeId)
 /// EX on `no-new-dev`, where the node holds it, goes to CR.
 pub fn unlock_device(space: &mut Space, n: NodeId)
     requires node { n < 16 }
-    requires may { is_ex (((locks_of space.old) no_new_dev).held n) ≡ true → convert_refusal ((locks_of space.old) no_new_dev) n ≡ None }
+    requires may { is_ex (((locks_of space.old) no_new_dev).held n) ≡ true
+        → convert_refusal ((locks_of space.old) no_new_dev) n ≡ None }
     ensures { locks_of space.new ≡ device_unlocked (locks_of space.old) n }
 {
     let device = Res::NoNewDev.number();
@@ -179,9 +187,13 @@ pub fn unlock_device(space: &mut Space, n: NodeId)
 /// EX on `no-new-dev` is taken at once, by a conversion where the node holds it.
 pub fn lock_device(space: &mut Space, n: NodeId)
     requires node { n < 16 }
-    requires ask { is_none (((locks_of space.old) no_new_dev).held n) ≡ true → ask_now_refusal ((locks_of space.old) no_new_dev) n Mode.EX ≡ None }
-    requires convert { is_some (((locks_of space.old) no_new_dev).held n) ≡ true → convert_now_refusal ((locks_of space.old) no_new_dev) n Mode.EX ≡ None }
-    ensures { locks_of space.new ≡ with_at (locks_of space.old) no_new_dev (holding ((locks_of space.old) no_new_dev) n Mode.EX) }
+    requires ask { is_none (((locks_of space.old) no_new_dev).held n) ≡ true
+        → ask_now_refusal ((locks_of space.old) no_new_dev) n Mode.EX ≡ None }
+    requires convert { is_some (((locks_of space.old) no_new_dev).held n) ≡ true
+        → convert_now_refusal ((locks_of space.old) no_new_dev) n Mode.EX ≡ None }
+    ensures { locks_of space.new
+        ≡ with_at (locks_of space.old) no_new_dev (holding
+        ((locks_of space.old) no_new_dev) n Mode.EX) }
 {
     let device = Res::NoNewDev.number();
     match space.holder(device, n) {
@@ -216,7 +228,9 @@ pub fn tell_range(space: &mut Space, n: NodeId, r: Range)
 pub fn grant(space: &mut Space, res: Res)
     requires res { IsResource res }
     requires may { grant_refusal ((locks_of space.old) (number_of res)) ≡ None }
-    ensures { locks_of space.new ≡ with_at (locks_of space.old) (number_of res) (granted ((locks_of space.old) (number_of res))) }
+    ensures { locks_of space.new
+        ≡ with_at (locks_of space.old) (number_of res) (granted ((locks_of space.old)
+        (number_of res))) }
 {
     if space.grant(res.number()).is_err() {
         unreachable!()

@@ -101,7 +101,8 @@ pub fn check_path(core: &CoreState, n: NodeId, l: LegId) -> Result<(), Refusal>
 
 /// Refuses while a slot is pending.
 pub fn check_recovered(core: &CoreState) -> Result<(), Refusal>
-    ensures { Judges result (refused_by Refusal.Pending (first_pending (core_of core.now).members)) }
+    ensures { Judges result (refused_by Refusal.Pending (first_pending
+        (core_of core.now).members)) }
 {
     match core.members.first_pending() {
         None => Ok(()),
@@ -138,7 +139,8 @@ fn other_faulty(core: &CoreState, n: NodeId, l: LegId) -> Option<LegId>
 /// Refuses while another leg is faulty.
 pub fn check_others(core: &CoreState, n: NodeId, l: LegId) -> Result<(), Refusal>
     requires { n < nodes_of core.now.identity.geometry }
-    ensures { Judges result (refused_by Refusal.Degraded (other_faulty ((core_of core.now).view n) l)) }
+    ensures { Judges result (refused_by Refusal.Degraded (other_faulty
+        ((core_of core.now).view n) l)) }
 {
     match other_faulty(core, n, l) {
         None => Ok(()),
@@ -150,7 +152,8 @@ pub fn check_others(core: &CoreState, n: NodeId, l: LegId) -> Result<(), Refusal
 pub fn check_copied(core: &CoreState, n: NodeId, l: LegId) -> Result<(), Refusal>
     requires node { n < nodes_of core.now.identity.geometry }
     requires leg { l < 8 }
-    ensures { Judges result (unless (has_copied (sizes (core_of core.now)) ((core_of core.now).copy n).pass l) (Refusal.NotCopied l)) }
+    ensures { Judges result (unless (has_copied (sizes (core_of core.now))
+        ((core_of core.now).copy n).pass l) (Refusal.NotCopied l)) }
 {
     check(core.copies.has_copied(n, l), Refusal::NotCopied(l))
 }
@@ -191,7 +194,8 @@ fn is_window(g: &Geometry, r: Range) -> bool
 
 /// Refuses a range that can't be a window.
 pub fn check_window(core: &CoreState, r: Range) -> Result<(), Refusal>
-    ensures { Judges result (unless (is_window (sizes (core_of core.now)) r) (Refusal.NoSector r.lo)) }
+    ensures { Judges result (unless (is_window (sizes (core_of core.now)) r)
+        (Refusal.NoSector r.lo)) }
 {
     check(
         is_window(&core.identity.geometry, r),

@@ -1,11 +1,11 @@
 // `offer`: what the message is to say is settled.
-ghost use Rattle.std.specs.Prelude.{◌≡◌, ◌<◌, ◌≤◌, ◌+◌, ◌^◌, ℕ, true, None, Some, length, get_or, if◌then◌else◌};
+ghost use Rattle.std.specs.Prelude.{◌≡◌, ◌<◌, ◌≤◌, ◌+◌, ◌^◌, ℕ, true, None, Some, length, if◌then◌else◌};
 ghost use Rattle.dlm_modes.specs.Points.{with_at};
 ghost use Rattle.dlm_space.specs.Parts.{locks_of};
 ghost use Rattle.disk_addition.specs.Wishes.{HasLeg};
 ghost use Rattle.mdc_types.specs.Roles.{role_of};
 ghost use Rattle.msg_rounds.specs.Refusals.{offer_refusal};
-ghost use Rattle.msg_rounds.specs.declared.phases.SenderPhase.TheVariants.{Idle, Offered};
+ghost use Rattle.msg_rounds.specs.declared.phases.SenderPhase.TheVariants.{Offered};
 ghost use Rattle.cluster_model.specs.Changes.{sender_now};
 ghost use Rattle.cluster_model.specs.Phases.{is_metadata};
 ghost use Rattle.cluster_model.specs.Wishes.{with_change, proposed_size, offer_of as proposal, offered, offer_outcome};
@@ -13,6 +13,7 @@ ghost use Rattle.node_member.specs.Members.{drawn_one};
 ghost use Rattle.cluster_model.specs.Table.{refusal};
 ghost use Rattle.cluster_model.specs.After.{after};
 ghost use Rattle.cluster_model.specs.Outcomes.{outcome_of};
+ghost use Rattle.world_rounds.specs.Tables.{senders_of};
 ghost use Rattle.world_state.specs.Kept.{core_of, offer_of, Judges};
 ghost use Rattle.world_state.specs.Ready.{Ready};
 
@@ -104,8 +105,8 @@ fn proposal(core: &CoreState, n: NodeId, wish: Wish) -> Offer
 // What the message is to say is settled.
 fn offer_round(senders: &mut [Sender; 16], space: &mut Space, n: NodeId)
     requires node { n < 16 }
-    requires may { offer_refusal (get_or senders.old n Idle) ≡ None }
-    ensures sender { (λ m. get_or senders.new m Idle) ≡ with_at (λ m. get_or senders.old m Idle) n Offered }
+    requires may { offer_refusal (senders_of senders.old n) ≡ None }
+    ensures sender { senders_of senders.new ≡ with_at (senders_of senders.old) n Offered }
     ensures sixteen { length senders.new ≡ 16 }
     ensures locks { locks_of space.new ≡ locks_of space.old }
 {
@@ -120,7 +121,9 @@ fn offer_round(senders: &mut [Sender; 16], space: &mut Space, n: NodeId)
 fn settle_offer(core: &mut CoreState, n: NodeId, offer: Offer)
     requires node { n < 16 }
     requires may { offer_refusal ((core_of core.old).sender n) ≡ None }
-    ensures { core_of core.new ≡ record (sender_now (core_of core.old) n SenderPhase.Offered) { offer = with_at (core_of core.old).offer n (Some (offer_of offer)) } }
+    ensures { core_of core.new
+        ≡ record (sender_now (core_of core.old) n SenderPhase.Offered) { offer = with_at
+        (core_of core.old).offer n (Some (offer_of offer)) } }
 {
     enter_offered(core, n);
     core.set_offer(n, Some(offer));
@@ -139,7 +142,9 @@ fn enter_offered(core: &mut CoreState, n: NodeId)
 fn draw(core: &mut CoreState, wish: &Wish) -> Outcome
     requires { is_metadata wish.now ≡ true → (core_of core.old).members.drawn < 2 ^ 63 }
     ensures outcome { result ≡ offer_outcome (core_of core.old) wish.now }
-    ensures members { core_of core.new ≡ record (core_of core.old) { members = if is_metadata wish.now then drawn_one (core_of core.old).members else (core_of core.old).members } }
+    ensures members { core_of core.new
+        ≡ record (core_of core.old) { members = if is_metadata wish.now then drawn_one
+        (core_of core.old).members else (core_of core.old).members } }
 {
     if is_metadata(wish) {
         Outcome::Events(core.members.draw())
@@ -148,7 +153,8 @@ fn draw(core: &mut CoreState, wish: &Wish) -> Outcome
     }
 }
 
-/// What the message is to say is settled. An events number is drawn where it changes the superblock.
+/// What the message is to say is settled. An events number is drawn where it changes the
+/// superblock.
 pub fn offer(core: &mut CoreState, n: NodeId, wish: Wish) -> Outcome
     requires accepted { refusal (core_of core.old) (Event.Offer n wish) ≡ None }
     requires ready { Ready (core_of core.old) }

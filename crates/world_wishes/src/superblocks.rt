@@ -61,7 +61,8 @@ pub fn may_write_super(core: &CoreState, n: NodeId, l: LegId) -> Result<(), Refu
 fn super_sector(core: &CoreState, n: NodeId, l: LegId) -> Sector
     requires accepted { refusal (core_of core.now) (Event.WriteSuper n l) ≡ None }
     requires ready { Ready (core_of core.now) }
-    ensures { transfer_of (core_of core.now) (Event.WriteSuper n l) ≡ Some (writes_to n l 8 result) }
+    ensures { transfer_of (core_of core.now) (Event.WriteSuper n l)
+        ≡ Some (writes_to n l 8 result) }
 {
     let Some(offer) = offer(core, n) else {
         unreachable!()
@@ -92,8 +93,10 @@ fn super_written(core: &mut CoreState, n: NodeId, l: LegId)
 fn super_missed(core: &mut CoreState, n: NodeId, l: LegId, v: &Sector) -> Outcome
     requires node { n < nodes_of core.old.identity.geometry }
     requires leg { l < 8 }
-    requires transfer { transfer_of (core_of core.old) (Event.WriteSuper n l) ≡ Some (writes_to n l 8 v.now) }
-    ensures failure { result ≡ failure (core_of core.old) (Event.WriteSuper n l) (writes_to n l 8 v.now) }
+    requires transfer { transfer_of (core_of core.old) (Event.WriteSuper n l)
+        ≡ Some (writes_to n l 8 v.now) }
+    ensures failure { result
+        ≡ failure (core_of core.old) (Event.WriteSuper n l) (writes_to n l 8 v.now) }
     ensures after { core_of core.new ≡ after (core_of core.old) (Event.WriteSuper n l) result }
 {
     if !core.is_target(n, l) {
