@@ -35,6 +35,9 @@ no_locks = fun_ext (λ r. either_way (r == ack_res) new_lock _ (sym_inner r) ∙
   sym_inner : (r : ℕ) → new_lock ≡ (if r == no_new_dev then held_with (λ n. false) CR else slot_with (λ n. false) r)
   sym_inner r = sym (inner r)
 
+pub same_members : (a b p q e f : ℕ) → a ≡ b → p ≡ q → e ≡ f → new_members a p e ≡ new_members b q f
+same_members a b p q e f x y z = rw (x, y, z) refl
+
 pub nobody : (o : Origin) (a : Array) (m : Members) (r : AllRequests) (b : Maps) (c : Copyings) (p : Progresses) (ad : Addings)
     → a ≡ array_of o → m ≡ new_members o.members o.pending o.events
     → writes_of r ≡ (λ n. []) → reads_of r ≡ (λ n. []) → writes_made_of r ≡ (λ n. 0) → reads_made_of r ≡ (λ n. 0)

@@ -1,5 +1,5 @@
 -- Members come in one after another.
-use Rattle.std.proofs.Common.{◌≡◌, ◌≢◌, inl, inr, ℕ, ◌+◌, ◌<◌, ◌==◌, ◌&&◌, Bool, true, false, not, [], if◌then◌else◌, nat_lt, refl, arith, ap, sym, ◌∙◌, Option, Some, None}
+use Rattle.std.proofs.Common.{◌≡◌, ◌≢◌, inl, inr, ℕ, zero, suc, ◌≤◌, ◌+◌, ◌<◌, ◌==◌, ◌&&◌, Bool, true, false, not, [], if◌then◌else◌, nat_lt, refl, arith, ap, sym, subst, ◌∙◌, Option, Some, None}
 use Rattle.std.proofs.Math.Path.{fun_ext}
 use Rattle.std.proofs.lemmas.Bool.{cases_eq}
 use Rattle.std.proofs.lemmas.Bool.Decides.{nat_tests}
@@ -7,11 +7,13 @@ use Rattle.dlm_modes.specs.Points.{with_at}
 use Rattle.dlm_modes.specs.First.{first_such}
 use Rattle.dlm_modes.specs.declared.mode.Mode.{Mode}
 use Rattle.dlm_modes.specs.declared.mode.Mode.TheVariants.{CR, PW}
-use Rattle.mdc_types.specs.Geometry.{chunks_of, pages_of, nodes_of}
+use Rattle.mdc_types.specs.Bits.{has_bit}
+use Rattle.mdc_types.specs.Geometry.{Sizes, chunks_of, pages_of, nodes_of}
+use Rattle.mdc_types.specs.declared.roles.Roles.{Roles}
 use Rattle.mdc_types.specs.Roles.{role_of}
 use Rattle.mdc_types.specs.declared.roles.NodeState.{NodeState}
 use Rattle.mdc_types.specs.declared.roles.NodeState.TheVariants.{Up, Out}
-use Rattle.dlm_modes.proofs.FirstLaws.{first_such_none}
+use Rattle.dlm_modes.proofs.FirstLaws.{first_such_same}
 use Rattle.dlm_space.specs.Locks.{Lock, holding, new_lock, ask_now_refusal, blocker, is_against, disagrees}
 use Rattle.msg_rounds.specs.Locks.{ack_res}
 use Rattle.leg_failure.specs.Views.{NodeView, new_view}
@@ -93,22 +95,29 @@ same_four : (o : Origin) (s s1 : ℕ → NodeState) (v v1 : ℕ → NodeView) (l
 same_four o s s1 v v1 l l1 b b1 e f g h = rw (e, f, g, h) refl
 
 -- a member came in
-pub came_in : (o : Origin) (a b c d e f g : Core) (n : ℕ) → is_member o n ≡ true → n < 16
+pub came_in : (o : Origin) (a b c d e f g : Core) (v : NodeView) (w : Bool) (n : ℕ) → is_member o n ≡ true → n < 16
+    → v ≡ new_view (role_of o.roles) o.sizes.sectors (λ l. false) → w ≡ o.warm
     → a ≡ opened_with o (below (is_member o) n)
     → b ≡ record a { state = with_at a.state n Up }
-    → c ≡ record b { view = with_at b.view n (new_view (role_of o.roles) o.sizes.sectors (λ l. false)) }
+    → c ≡ record b { view = with_at b.view n v }
     → d ≡ record c { locks = with_at c.locks n (holding (c.locks n) n PW) }
     → e ≡ record d { locks = with_at d.locks ack_res (holding (d.locks ack_res) n CR) }
     → f ≡ record e { locks = with_at e.locks no_new_dev (holding (e.locks no_new_dev) n CR) }
-    → g ≡ record f { bitmap = with_at f.bitmap n (opened o.sizes o.warm) }
+    → g ≡ record f { bitmap = with_at f.bitmap n (opened f.array.sizes w) }
     → g ≡ opened_with o (below (is_member o) (n + 1))
-came_in o a b c d e f g n is lt p q r s t u v =
+came_in o a b c d e f g x y n is lt view warm p q r s t u v =
     let member : ℕ → Bool = is_member o in
-    rw (v, u, t, s, r, q, p) (same_four o _ _ _ _ _ _ _ _
+    rw (v, u, t, s, r, q, p, view, warm) (same_four o _ _ _ _ _ _ _ _
     (fun_ext (λ m. by_member (λ x. if x then Up else Out) member n m is))
     (fun_ext (λ m. by_member (λ x. if x then new_view (role_of o.roles) o.sizes.sectors (λ l. false) else no_view) member n m is))
     (fun_ext (λ m. lock_at member n m is lt))
     (fun_ext (λ m. by_member (bits_if o) member n m is)))
+
+pub same_view : (r s : Roles) (a b : ℕ) → r ≡ s → a ≡ b → new_view (role_of r) a (λ l. false) ≡ new_view (role_of s) b (λ l. false)
+same_view r s a b e f = rw (e, f) refl
+
+pub below_most : (g : Sizes) (n : ℕ) → n < nodes_of g → n < 16
+below_most g n lt = grind (arith, nat_tests)
 
 -- no member came in
 pub stayed_out : (o : Origin) (n : ℕ) → is_member o n ≡ false → opened_with o (below (is_member o) n) ≡ opened_with o (below (is_member o) (n + 1))
@@ -121,18 +130,29 @@ none_below member m = grind (arith, nat_tests)
 pub none_yet : (o : Origin) → opened_with o (λ n. false) ≡ opened_with o (below (is_member o) 0)
 none_yet o = ap (opened_with o) (fun_ext (λ m. none_below (is_member o) m))
 
-all_below : (o : Origin) (m : ℕ) → below (is_member o) (nodes_of o.sizes) m ≡ is_member o m
-all_below o m = grind (arith, nat_tests)
+all_below : (o : Origin) (n m : ℕ) → nodes_of o.sizes ≤ n → below (is_member o) n m ≡ is_member o m
+all_below o n m le = grind (arith, nat_tests)
 
-pub all_in : (o : Origin) → opened_with o (below (is_member o) (nodes_of o.sizes)) ≡ core_at o
-all_in o = ap (opened_with o) (fun_ext (all_below o)) ∙ refl
+pub all_in : (o : Origin) (g : Sizes) (e n : ℕ) → g ≡ o.sizes → e ≡ nodes_of g → e ≤ n
+    → opened_with o (below (is_member o) n) ≡ core_at o
+all_in o g e n same end le =
+    let last : nodes_of o.sizes ≤ n = subst (λ h. nodes_of h ≤ n) same (subst (λ k. k ≤ n) end le) in
+    ap (opened_with o) (fun_ext (λ m. all_below o n m last)) ∙ refl
+
+pub no_member : (o : Origin) (n : ℕ) (b : Bool) → b ≡ has_bit o.members n → b ≡ false → is_member o n ≡ false
+no_member o n b is none = grind (arith, nat_tests, is, none)
 
 -- no lock that a member takes is in its way
+
+nowhere : (i n : ℕ) → first_such (λ k. false) i n ≡ None
+unfolding first_such
+nowhere i zero = refl
+nowhere i (suc n) = nowhere (i + 1) n
 
 free_of : (lock : Lock) (n : ℕ) (mode : Mode) → lock.held n ≡ None → lock.requests ≡ []
     → ((m : ℕ) → is_against lock n mode m ≡ false) → ask_now_refusal lock n mode ≡ None
 free_of lock n mode held requests against =
-    let none : blocker lock n mode ≡ None = first_such_none (is_against lock n mode) 0 16 (λ k le lt. against k) in
+    let none : blocker lock n mode ≡ None = first_such_same (is_against lock n mode) (λ k. false) 0 16 (λ k le lt. against k) ∙ nowhere 0 16 in
     rw (held, requests, none) refl
 
 not_below : (member : ℕ → Bool) (n : ℕ) → below member n n ≡ false
@@ -168,25 +188,30 @@ slot_there member n lt = grind (arith, nat_tests)
 other_place : (locks : ℕ → Lock) (n r : ℕ) (x : Lock) → n ≢ r → with_at locks n x r ≡ locks r
 other_place locks n r x other = grind (arith, nat_tests, other)
 
-module _ (o : Origin) (a b c d e : Core) (n : ℕ) (lt : n < 16) (p : a ≡ opened_with o (below (is_member o) n))
+module _ (o : Origin) (a b c d : Core) (v : NodeView) (n : ℕ) (lt : n < 16) (p : a ≡ opened_with o (below (is_member o) n))
     (q : b ≡ record a { state = with_at a.state n Up })
-    (r : c ≡ record b { view = with_at b.view n (new_view (role_of o.roles) o.sizes.sectors (λ l. false)) }) where
+    (r : c ≡ record b { view = with_at b.view n v })
+    (s : d ≡ record c { locks = with_at c.locks n (holding (c.locks n) n PW) }) where
 
   c_locks : c.locks ≡ locks_with (below (is_member o) n)
   c_locks = ap (λ k. k.locks) r ∙ ap (λ k. k.locks) q ∙ ap (λ k. k.locks) p
 
-  pub free_slot : ask_now_refusal (c.locks n) n PW ≡ None
-  free_slot = ap (λ lock. ask_now_refusal lock n PW) (ap (λ f. f n) c_locks ∙ slot_there (is_member o) n lt) ∙ free_at_slot (is_member o) n
+  d_ack : d.locks ack_res ≡ held_with (below (is_member o) n) CR
+  d_ack = ap (λ k. k.locks ack_res) s ∙ other_place c.locks n ack_res _ (λ same. omega (arith, lt, same)) ∙ ap (λ f. f ack_res) c_locks
 
-  d_ack : d ≡ record c { locks = with_at c.locks n (holding (c.locks n) n PW) } → d.locks ack_res ≡ held_with (below (is_member o) n) CR
-  d_ack s = ap (λ k. k.locks ack_res) s ∙ other_place c.locks n ack_res _ (λ same. omega (arith, lt, same)) ∙ ap (λ f. f ack_res) c_locks
+  d_dev : d.locks no_new_dev ≡ held_with (below (is_member o) n) CR
+  d_dev = ap (λ k. k.locks no_new_dev) s ∙ other_place c.locks n no_new_dev _ (λ same. omega (arith, lt, same)) ∙ ap (λ f. f no_new_dev) c_locks
 
-  d_dev : d ≡ record c { locks = with_at c.locks n (holding (c.locks n) n PW) } → d.locks no_new_dev ≡ held_with (below (is_member o) n) CR
-  d_dev s = ap (λ k. k.locks no_new_dev) s ∙ other_place c.locks n no_new_dev _ (λ same. omega (arith, lt, same)) ∙ ap (λ f. f no_new_dev) c_locks
+  pub free_ack : ask_now_refusal (d.locks ack_res) n CR ≡ None
+  free_ack = ap (λ lock. ask_now_refusal lock n CR) d_ack ∙ free_at_held (is_member o) n
 
-  pub free_ack : d ≡ record c { locks = with_at c.locks n (holding (c.locks n) n PW) } → ask_now_refusal (d.locks ack_res) n CR ≡ None
-  free_ack s = ap (λ lock. ask_now_refusal lock n CR) (d_ack s) ∙ free_at_held (is_member o) n
-
-  pub free_dev : d ≡ record c { locks = with_at c.locks n (holding (c.locks n) n PW) } → e ≡ record d { locks = with_at d.locks ack_res (holding (d.locks ack_res) n CR) }
+  pub free_dev : (e : Core) → e ≡ record d { locks = with_at d.locks ack_res (holding (d.locks ack_res) n CR) }
       → ask_now_refusal (e.locks no_new_dev) n CR ≡ None
-  free_dev s t = ap (λ lock. ask_now_refusal lock n CR) (ap (λ k. k.locks no_new_dev) t ∙ d_dev s) ∙ free_at_held (is_member o) n
+  free_dev e t = ap (λ lock. ask_now_refusal lock n CR) (ap (λ k. k.locks no_new_dev) t ∙ d_dev) ∙ free_at_held (is_member o) n
+
+pub free_slot : (o : Origin) (a b c : Core) (v : NodeView) (n : ℕ) → n < 16 → a ≡ opened_with o (below (is_member o) n)
+    → b ≡ record a { state = with_at a.state n Up } → c ≡ record b { view = with_at b.view n v }
+    → ask_now_refusal (c.locks n) n PW ≡ None
+free_slot o a b c v n lt p q r =
+    let locks : c.locks ≡ locks_with (below (is_member o) n) = ap (λ k. k.locks) r ∙ ap (λ k. k.locks) q ∙ ap (λ k. k.locks) p in
+    ap (λ lock. ask_now_refusal lock n PW) (ap (λ f. f n) locks ∙ slot_there (is_member o) n lt) ∙ free_at_slot (is_member o) n

@@ -63,7 +63,6 @@ fn open_bits(core: &mut CoreState, n: NodeId, warm: bool)
 }
 
 // The node comes in as a member.
-#[tactic(auto, using(crate::proofs::Members::free_slot, crate::proofs::Members::free_ack, crate::proofs::Members::free_dev, crate::proofs::Members::came_in))]
 fn bring_in(core: &mut CoreState, opening: &Opening, n: NodeId)
     requires node { n < nodes_of opening.now.sizes }
     requires member { is_member opening.now n ≡ true }
