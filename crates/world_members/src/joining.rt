@@ -8,7 +8,8 @@ ghost use Rattle.leg_failure.specs.Views.{view_of};
 ghost use Rattle.msg_rounds.specs.Refusals.{is_token_held};
 ghost use Rattle.cluster_model.specs.After.{after, tried_as};
 ghost use Rattle.cluster_model.specs.Guards.{refused_by};
-ghost use Rattle.cluster_model.specs.Joining.{is_untried, greatest, loaded, newest, missing_leg, view_from};
+ghost use Rattle.cluster_model.specs.Joining.{is_untried, greatest, loaded, newest, missing_leg};
+ghost use Rattle.cluster_model.specs.Joining.{view_from};
 ghost use Rattle.cluster_model.specs.Outcomes.{outcome_of, load_outcome};
 ghost use Rattle.cluster_model.specs.State.{sizes};
 ghost use Rattle.cluster_model.specs.Table.{refusal};
@@ -187,7 +188,8 @@ fn note_super(core: &mut CoreState, n: NodeId, l: LegId, v: &Sector) -> Outcome
     ensures outcome { result
         ≡ load_outcome l v.now (says_in (core_of core.old).array l v.now.bytes) }
     ensures core { core_of core.new
-        ≡ loaded (core_of core.old) n l (tried_as (says_in (core_of core.old).array l v.now.bytes)) }
+        ≡ loaded (core_of core.old) n l
+        (tried_as (says_in (core_of core.old).array l v.now.bytes)) }
 {
     match core.identity.read(l, v) {
         Some(state) => {

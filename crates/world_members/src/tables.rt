@@ -1,19 +1,23 @@
 // Changes of the tables by node.
 
-ghost use Rattle.std.specs.Prelude.{◌≡◌, ◌<◌, ◌==◌, ◌&&◌, length, slice_set, [], None, Some, if◌then◌else◌};
+ghost use Rattle.std.specs.Prelude.{◌≡◌, ◌<◌, ◌==◌, ◌&&◌, length, slice_set, [], None, Some};
+ghost use Rattle.std.specs.Prelude.{if◌then◌else◌};
 ghost use Rattle.dlm_modes.specs.declared.mode.Mode.TheVariants.{CR};
 ghost use Rattle.mdc_types.specs.Resources.{IsResource, number_of};
 ghost use Rattle.dlm_modes.specs.Points.{with_at};
 ghost use Rattle.dlm_space.specs.Locks.{ask_now_refusal, caller, holding, let_go};
 ghost use Rattle.dlm_space.specs.Parts.{locks_of};
 ghost use Rattle.msg_rounds.specs.Holds.{SenderHolds, ReceiverHolds, MayTake, MayResume};
-ghost use Rattle.msg_rounds.specs.Locks.{message_res, ack_res, token_asked, message_taken, message_processed, resumed, message_dropped};
+ghost use Rattle.msg_rounds.specs.Locks.{message_res, ack_res, token_asked, message_taken};
+ghost use Rattle.msg_rounds.specs.Locks.{message_processed, resumed, message_dropped};
 ghost use Rattle.msg_rounds.specs.Phases.{new_receiving, taken, now_in, heard_death};
-ghost use Rattle.msg_rounds.specs.Refusals.{take_refusal, processed_refusal, resume_refusal, drop_refusal};
+ghost use Rattle.msg_rounds.specs.Refusals.{take_refusal, processed_refusal, resume_refusal};
+ghost use Rattle.msg_rounds.specs.Refusals.{drop_refusal};
 ghost use Rattle.suspend_ranges.specs.Suspended.{entry_of};
 ghost use Rattle.cluster_model.specs.Changes.{no_new_dev};
 ghost use Rattle.world_state.specs.Kept.{tried_of};
-ghost use Rattle.world_members.specs.Tables.{senders_of, receivers_of, heads_of, all_tries, suspended_of};
+ghost use Rattle.world_members.specs.Tables.{senders_of, receivers_of, heads_of, all_tries};
+ghost use Rattle.world_members.specs.Tables.{suspended_of};
 
 use dlm_modes::{Block, Mode};
 use dlm_space::Space;
@@ -55,7 +59,8 @@ pub fn put_range(lists: &mut [SuspendList; 16], n: NodeId, o: NodeId, r: Range)
     requires node { n < 16 }
     requires owner { o < 16 }
     ensures ranges { suspended_of lists.new
-        ≡ (λ m owner. if (m == n) && (owner == o) then entry_of r else suspended_of lists.old m owner) }
+        ≡ (λ m owner. if (m == n) && (owner == o) then entry_of r
+        else suspended_of lists.old m owner) }
     ensures size { length lists.new ≡ 16 }
 {
     lists[n as usize].put(o, r);
@@ -72,7 +77,8 @@ pub fn ask_token(
     requires holds { SenderHolds (locks_of space.old) n (senders_of senders.old n) }
     requires sender { senders_of senders.old n ≡ SenderPhase.Idle }
     requires receiver { (receivers_of receivers.now n).phase ≡ ReceiverPhase.Idle }
-    ensures sender { senders_of senders.new ≡ with_at (senders_of senders.old) n SenderPhase.TokenAsked }
+    ensures sender { senders_of senders.new
+        ≡ with_at (senders_of senders.old) n SenderPhase.TokenAsked }
     ensures locks { locks_of space.new ≡ token_asked (locks_of space.old) n }
     ensures size { length senders.new ≡ 16 }
 {
@@ -90,7 +96,8 @@ pub fn take(receivers: &mut [Receiver; 16], space: &mut Space, n: NodeId) -> (Bl
     requires holds { MayTake (locks_of space.old) n }
     ensures block { result.0 ≡ (locks_of space.old message_res).block }
     ensures sender { Some result.1 ≡ caller (locks_of space.old ack_res) n }
-    ensures receiver { receivers_of receivers.new ≡ with_at (receivers_of receivers.old) n (taken result.1) }
+    ensures receiver { receivers_of receivers.new
+        ≡ with_at (receivers_of receivers.old) n (taken result.1) }
     ensures locks { locks_of space.new ≡ message_taken (locks_of space.old) n }
     ensures size { length receivers.new ≡ 16 }
 {
@@ -106,7 +113,8 @@ pub fn process(receivers: &mut [Receiver; 16], space: &mut Space, n: NodeId)
     requires may { processed_refusal (receivers_of receivers.old n) ≡ None }
     requires holds { ReceiverHolds (locks_of space.old) n (receivers_of receivers.old n).phase }
     ensures receiver { receivers_of receivers.new
-        ≡ with_at (receivers_of receivers.old) n (now_in ReceiverPhase.Waiting (receivers_of receivers.old n)) }
+        ≡ with_at (receivers_of receivers.old) n
+        (now_in ReceiverPhase.Waiting (receivers_of receivers.old n)) }
     ensures locks { locks_of space.new ≡ message_processed (locks_of space.old) n }
     ensures size { length receivers.new ≡ 16 }
 {
@@ -125,7 +133,8 @@ pub fn resume(receivers: &mut [Receiver; 16], space: &mut Space, n: NodeId) -> V
     ensures verdict { result
         ≡ (if (receivers_of receivers.old n).gone then Verdict.Broken else Verdict.Whole) }
     ensures receiver { receivers_of receivers.new
-        ≡ with_at (receivers_of receivers.old) n (now_in ReceiverPhase.Idle (receivers_of receivers.old n)) }
+        ≡ with_at (receivers_of receivers.old) n
+        (now_in ReceiverPhase.Idle (receivers_of receivers.old n)) }
     ensures locks { locks_of space.new ≡ resumed (locks_of space.old) n }
     ensures size { length receivers.new ≡ 16 }
 {
@@ -141,7 +150,8 @@ pub fn drop_message(receivers: &mut [Receiver; 16], space: &mut Space, n: NodeId
     requires may { drop_refusal (receivers_of receivers.old n) ≡ None }
     requires holds { ReceiverHolds (locks_of space.old) n (receivers_of receivers.old n).phase }
     ensures receiver { receivers_of receivers.new
-        ≡ with_at (receivers_of receivers.old) n (now_in ReceiverPhase.Idle (receivers_of receivers.old n)) }
+        ≡ with_at (receivers_of receivers.old) n
+        (now_in ReceiverPhase.Idle (receivers_of receivers.old n)) }
     ensures locks { locks_of space.new ≡ message_dropped (locks_of space.old) n }
     ensures size { length receivers.new ≡ 16 }
 {
