@@ -1,0 +1,179 @@
+-- The part of the state that says who may be read: the phases, the views and the offers of the
+-- nodes, and what the superblocks say. Beside it what was agreed on last, and two ghosts.
+use Rattle.std.specs.Prelude.{ℕ, Bool, true, false, not, ◌&&◌, ◌||◌, ◌==◌, if◌then◌else◌, Option, Some, None, option_map, is_some, List, [], ◌∷◌, unwrap_or, nat_le}
+use Rattle.dlm_modes.specs.First.{first_such}
+use Rattle.mdc_types.specs.Roles.{role_of, is_working}
+use Rattle.mdc_types.specs.declared.events.Event.{Event}
+use Rattle.mdc_types.specs.declared.events.Event.TheVariants as events
+use Rattle.mdc_types.specs.declared.events.Wish.{Wish}
+use Rattle.mdc_types.specs.declared.events.Wish.TheVariants as wishes
+use Rattle.mdc_types.specs.declared.outcomes.Entry.{Entry}
+use Rattle.mdc_types.specs.declared.roles.Role.{Role}
+use Rattle.mdc_types.specs.declared.roles.Role.TheVariants.{Spare}
+use Rattle.mdc_types.specs.declared.roles.NodeState.{NodeState}
+use Rattle.cluster_msgs.specs.declared.msg.Body.{Body}
+use Rattle.cluster_msgs.specs.declared.msg.Body.TheVariants as bodies
+use Rattle.cluster_msgs.specs.declared.msg.Msg.{Msg}
+use Rattle.md_superblock.specs.Arrays.{Array, Says}
+use Rattle.msg_rounds.specs.Phases.{Receiving, has_processed, has_published}
+use Rattle.msg_rounds.specs.declared.phases.SenderPhase.{SenderPhase}
+use Rattle.leg_failure.specs.Views.{NodeView}
+use Rattle.cluster_model.specs.State.{State, Core, Legs, Offer, Tried}
+use Rattle.cluster_model.specs.Phases.{is_metadata, offers}
+use Rattle.cluster_model.specs.Opening.{Origin}
+use Rattle.cluster_model.specs.Receiving.{told_state}
+use Rattle.cluster_model.specs.Stored.{super_on}
+use Rattle.cluster_model.specs.Superblocks.{says_of_offer}
+use Rattle.laws_locks.specs.Following.{core_after}
+use Rattle.laws_roles.specs.Agreed.{Agreed, agreed_on, agreed_in}
+
+-- What stands in options, with a value where there is none.
+
+abbrev pub changes_super : Option Offer → Bool
+changes_super x = offers is_metadata x
+
+abbrev pub offered_role : Option Offer → ℕ → Role
+offered_role None l = Spare
+offered_role (Some o) l = o.role l
+
+abbrev pub offered_size : Option Offer → ℕ
+offered_size None = 0
+offered_size (Some o) = o.size
+
+abbrev pub offered_events : Option Offer → ℕ
+offered_events None = 0
+offered_events (Some o) = o.events
+
+abbrev pub offered_says : Option Offer → Option Says
+offered_says x = option_map says_of_offer x
+
+abbrev pub is_written_to : Option Offer → ℕ → Bool
+is_written_to None l = false
+is_written_to (Some o) l = o.written l
+
+-- a superblock's events number is at least 1
+abbrev pub number : Option Says → ℕ
+number None = 0
+number (Some says) = says.events
+
+abbrev pub said_role : Option Says → ℕ → Role
+said_role None l = Spare
+said_role (Some says) l = role_of says.roles l
+
+abbrev pub said_size : Option Says → ℕ
+said_size None = 0
+said_size (Some says) = says.size
+
+abbrev pub body_role : Body → ℕ → Role
+body_role (bodies.Metadata events roles size) l = role_of roles l
+body_role (bodies.Capacity events roles size) l = role_of roles l
+body_role body l = Spare
+
+abbrev pub body_size : Body → ℕ
+body_size (bodies.Metadata events roles size) = size
+body_size (bodies.Capacity events roles size) = size
+body_size body = 0
+
+abbrev pub heard_role : Option Msg → ℕ → Role
+heard_role None l = Spare
+heard_role (Some m) l = body_role m.body l
+
+abbrev pub heard_size : Option Msg → ℕ
+heard_size None = 0
+heard_size (Some m) = body_size m.body
+
+-- The ghosts.
+
+-- the leg becomes one that works
+abbrev pub promotes : Wish → ℕ → Bool
+promotes (wishes.Work l) k = k == l
+promotes wish k = false
+
+-- what was agreed on last; a good leg is one that some view, current superblock or offer may call
+-- working; the home leg has a current superblock
+pub record Ghost : Type 0 where
+  pub agreed : Agreed
+  pub good : ℕ → Bool
+  pub home : ℕ
+
+abbrev pub first_working : (ℕ → Role) → ℕ
+first_working role = unwrap_or (first_such (λ l. is_working (role l)) 0 8) 0
+
+abbrev pub with_finish : Ghost → Offer → Ghost
+with_finish g o = record {
+  agreed = record { role = o.role; size = o.size };
+  good = λ l. is_working (o.role l);
+  home = first_working o.role;
+}
+
+abbrev pub finished_by : Ghost → Option Offer → Ghost
+finished_by g None = g
+finished_by g (Some o) = if is_metadata o.wish then with_finish g o else g
+
+-- a leg that is to work is good from the offer on
+abbrev pub with_promoted : Ghost → Wish → Ghost
+with_promoted g wish = record g { good = λ l. g.good l || promotes wish l }
+
+abbrev pub with_wish : Ghost → Wish → Ghost
+with_wish g wish = if is_metadata wish then with_promoted g wish else g
+
+abbrev pub ghost_after : Core → Event → Ghost → Ghost
+ghost_after core (events.FinishRound n) g = finished_by g (core.offer n)
+ghost_after core (events.Offer n wish) g = with_wish g wish
+ghost_after core e g = g
+
+-- at the opening, whose newest superblock is on this leg
+abbrev pub ghost_at : Origin → ℕ → Ghost
+ghost_at o home = record {
+  agreed = record { role = role_of o.roles; size = o.sizes.sectors };
+  good = λ l. is_working (role_of o.roles l);
+  home = home;
+}
+
+abbrev pub ghost_in : Origin → ℕ → List Entry → Ghost
+ghost_in o home [] = ghost_at o home
+ghost_in o home (x ∷ past) = ghost_after (core_after o past) x.event (ghost_in o home past)
+
+-- The part.
+
+pub record Part : Type 0 where
+  pub state : ℕ → NodeState
+  pub view : ℕ → NodeView
+  pub sender : ℕ → SenderPhase
+  pub offer : ℕ → Option Offer
+  pub receiver : ℕ → Receiving
+  pub heard : ℕ → Option Msg
+  pub tried : ℕ → ℕ → Tried
+  pub drawn : ℕ
+  pub completed : ℕ
+  pub super : ℕ → Option Says
+  pub ghost : Ghost
+
+abbrev pub part_of : Core → (ℕ → Option Says) → Ghost → Part
+part_of core super ghost = record {
+  state = core.state;
+  view = core.view;
+  sender = core.sender;
+  offer = core.offer;
+  receiver = core.receiver;
+  heard = core.heard;
+  tried = core.tried;
+  drawn = core.members.drawn;
+  completed = core.members.completed;
+  super = super;
+  ghost = ghost;
+}
+
+abbrev pub supers : Array → Legs → ℕ → Option Says
+supers array legs k = super_on array legs k
+
+abbrev pub part_at : State → Ghost → Part
+part_at state ghost = part_of state.core (supers state.core.array state.legs) ghost
+
+-- the receiver has processed a message of the superblock whose round is whole, and wasn't told yet
+abbrev pub waits : Receiving → Option Msg → SenderPhase → Bool
+waits r heard sender =
+    has_processed r.phase && not r.gone && told_state heard && not (has_published sender)
+
+abbrev pub is_late : Part → ℕ → Bool
+is_late w n = waits (w.receiver n) (w.heard n) (w.sender (w.receiver n).from)

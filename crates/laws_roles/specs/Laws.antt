@@ -1,0 +1,69 @@
+-- Who may be read, along each run over legs that tell their contents.
+use Rattle.std.specs.Prelude.{◌≡◌, ◌⊎◌, ℕ, ◌<◌, ◌≤◌, true, false, is_some, List, Some, None}
+use Rattle.mdc_types.specs.Roles.{role_of, is_working, is_written, some_works}
+use Rattle.mdc_types.specs.declared.outcomes.Entry.{Entry}
+use Rattle.mdc_types.specs.declared.roles.NodeState.TheVariants.{Up}
+use Rattle.mdc_types.specs.declared.roles.Role.TheVariants.{Working}
+use Rattle.md_superblock.specs.Arrays.{Says, AreBytes}
+use Rattle.leg_failure.specs.Views.{is_target, is_unacked, unacked_leg}
+use Rattle.cluster_model.specs.State.{State, Core, sizes}
+use Rattle.cluster_model.specs.Contents.{Opens, AllTell}
+use Rattle.cluster_model.specs.Opening.{Origin}
+use Rattle.cluster_model.specs.Run.{Run}
+use Rattle.cluster_model.specs.Served.{Served, Current, CalledIn, Trusted, Shut}
+use Rattle.cluster_model.specs.Size.{Size}
+use Rattle.cluster_model.specs.Stored.{super_on}
+use Rattle.laws_roles.specs.Agreed.{Agreed, agreed_in}
+
+-- the legs tell what they have, and the array's name and uuid are bytes
+pub record Tells (o : Origin) (start : State) : Type 0 where
+  pub legs : AllTell o start.legs
+  pub name : AreBytes 32 o.name
+  pub uuid : AreBytes 16 o.uuid
+
+-- along each run from an opening, over legs that tell their contents
+abbrev pub Always : (Origin → State → List Entry → State → Type 0) → Type 0
+Always Holds = (o : Origin) (start end : State) (past : List Entry)
+    → Opens o start → Tells o start → Run start past end → Holds o start past end
+
+-- A leg that isn't what an up node writes, and whose loss all have acknowledged, is read by nobody.
+abbrev pub RunsAreShut : Type 0
+RunsAreShut = Always (λ o start past end. Shut end)
+
+-- each leg has a superblock of the array, some leg and each leg that is served has a current one,
+-- and superblocks of one events number say the same
+pub record Superblocks (state : State) : Type 0 where
+  pub each : (k : ℕ) → k < (sizes state.core).legs
+      → is_some (super_on state.core.array state.legs k) ≡ true
+  pub current : (k : ℕ) × Current state k
+  pub served : (l : ℕ) → Served state l → Current state l
+  pub same : (j k : ℕ) (a b : Says) → super_on state.core.array state.legs j ≡ Some a
+      → super_on state.core.array state.legs k ≡ Some b → a.events ≡ b.events → a ≡ b
+
+abbrev pub RunsHaveSuperblocks : Type 0
+RunsHaveSuperblocks = Always (λ o start past end. Superblocks end)
+
+-- no node falls behind a size that an up node was sure of, nor does a current superblock
+abbrev pub RunsKeepTheSize : Type 0
+RunsKeepTheSize = Always (λ o start past end. Size start past end)
+
+-- each superblock calls some leg working
+abbrev pub SuperblocksKeepALeg : Type 0
+SuperblocksKeepALeg = (state : State) (k : ℕ) (says : Says)
+    → super_on state.core.array state.legs k ≡ Some says → some_works (role_of says.roles) ≡ true
+
+-- what the nodes make of the roles that were agreed on last
+pub record RolesHold (agreed : Agreed) (state : State) : Type 0 where
+  -- a leg that may be read is one that these roles want written
+  pub trusted : (l : ℕ) → Trusted state l → is_written (agreed.role l) ≡ true
+  -- and a target of each up node, or unacked there
+  pub written : (n l : ℕ) → state.core.state n ≡ Up → Trusted state l
+      → (is_target (state.core.view n) l ≡ true) ⊎ (is_unacked (state.core.view n) l ≡ true)
+  -- an up node has these roles where nothing is unacked
+  pub roles : (n l : ℕ) → state.core.state n ≡ Up → is_unacked (state.core.view n) l ≡ false
+      → (state.core.view n).role l ≡ agreed.role l
+  pub all_roles : (n l : ℕ) → state.core.state n ≡ Up → unacked_leg (state.core.view n) ≡ None
+      → l < (sizes state.core).legs → (state.core.view n).role l ≡ agreed.role l
+
+abbrev pub RunsHaveRoles : Type 0
+RunsHaveRoles = Always (λ o start past end. RolesHold (agreed_in o past) end)
