@@ -3,4 +3,7 @@ pub mod Ways
 pub mod Numbers
 pub mod Roles
 pub mod Sizes
+pub mod NumberSteps
 pub mod RoleSteps
+pub mod LateSteps
+pub mod SizeSteps
