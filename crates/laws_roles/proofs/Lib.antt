@@ -7,3 +7,5 @@ pub mod NumberSteps
 pub mod RoleSteps
 pub mod LateSteps
 pub mod SizeSteps
+pub mod Known
+pub mod Rows
