@@ -9,3 +9,5 @@ pub mod LateSteps
 pub mod SizeSteps
 pub mod Known
 pub mod Rows
+pub mod OfferRows
+pub mod RoundRows

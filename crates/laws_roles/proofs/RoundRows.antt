@@ -1,0 +1,269 @@
+-- The ways of a round: it is published, taken, processed, resumed, dropped and finished.
+use Rattle.std.proofs.Common.{◌≡◌, ◌≢◌, ◌⊎◌, inl, inr, ℕ, ◌+◌, ◌<◌, ◌≤◌, ◌==◌, ◌&&◌, ◌||◌, Bool, true, false, not, if◌then◌else◌, List, [], ◌∷◌, Option, Some, None, refl, sym, ap, subst, ◌∙◌, arith}
+use Rattle.std.specs.Prelude.{is_some}
+use Rattle.std.proofs.lemmas.Bool.{cases_lt}
+use Rattle.std.proofs.lemmas.Bool.Decides.{nat_tests}
+use Rattle.dlm_modes.specs.First.{first_such}
+use Rattle.dlm_modes.proofs.FirstLaws.{first_such_none, first_such_some}
+use Rattle.dlm_modes.specs.Guards.{first_of, unless}
+use Rattle.dlm_modes.specs.Points.{with_at}
+use Rattle.mdc_types.specs.Roles.{role_of, eight, is_working, is_written, some_works}
+use Rattle.mdc_types.specs.declared.events.Wish.{Wish}
+use Rattle.mdc_types.specs.declared.events.Wish.TheVariants as wishes
+use Rattle.mdc_types.specs.declared.refusals.Refusal.{Refusal}
+use Rattle.mdc_types.specs.declared.refusals.Refusal.TheVariants.{NotUp, NotWritten, SenderGone, NotGranted}
+use Rattle.mdc_types.specs.declared.resources.Res.TheVariants as resources
+use Rattle.mdc_types.specs.declared.roles.Role.{Role}
+use Rattle.mdc_types.specs.declared.roles.Role.TheVariants.{Spare}
+use Rattle.mdc_types.specs.declared.roles.Roles.{Roles}
+use Rattle.mdc_types.specs.declared.roles.NodeState.{NodeState}
+use Rattle.mdc_types.specs.declared.roles.NodeState.TheVariants as states
+use Rattle.cluster_msgs.specs.declared.msg.Body.{Body}
+use Rattle.cluster_msgs.specs.declared.msg.Body.TheVariants as bodies
+use Rattle.cluster_msgs.specs.declared.msg.Msg.{Msg}
+use Rattle.md_superblock.specs.Arrays.{Says}
+use Rattle.msg_rounds.specs.Locks.{message_res, message_processed, finished}
+use Rattle.msg_rounds.specs.Phases.{Receiving, is_idle, has_published, has_processed, may_receive}
+use Rattle.msg_rounds.specs.Refusals.{is_offered, is_granted, is_taken, is_pr, may_resume}
+use Rattle.msg_rounds.specs.declared.phases.SenderPhase.{SenderPhase}
+use Rattle.msg_rounds.specs.declared.phases.SenderPhase.TheVariants as senders
+use Rattle.msg_rounds.specs.declared.phases.ReceiverPhase.{ReceiverPhase}
+use Rattle.msg_rounds.specs.declared.phases.ReceiverPhase.TheVariants as receivers
+use Rattle.leg_failure.specs.Views.{acknowledged}
+use Rattle.cluster_model.specs.State.{Core, Offer, sizes}
+use Rattle.cluster_model.specs.Guards.{is_out, no_node, not_fenced, of_live}
+use Rattle.cluster_model.specs.Phases.{is_in, is_up, is_joining, is_metadata, offers, sender_is, receiver_is}
+use Rattle.cluster_model.specs.Publishing.{publish_guards, offer_is_due, wish_is_due, unwritten_leg, publish, publish_offer, publish_wish, block_of, body_of, message_of}
+use Rattle.cluster_model.specs.Changes.{sender_now, device_unlocked}
+use Rattle.cluster_model.specs.Finishing.{finish_guards, finish, finish_offer, finish_wish, round_over}
+use Rattle.cluster_model.specs.Receiving.{take_guards, take, called_by, published_message, resume_guards, resume, view_resumed, receiver_idle, receiver_now, told_state, is_state_body, drop_guards, drop_message}
+use Rattle.cluster_model.specs.Processing.{processed_guards, processed, do_message, do_body, draining_by, see_device}
+use Rattle.laws_locks.specs.Rounded.{has_token, stands}
+use Rattle.laws_sound.proofs.Guarded.{all_none, first_none, unless_none, refused_none}
+use Rattle.laws_sound.proofs.RoundFacts.{Standing, standing, no_offer, offered_stands, granted_stands, published_stands, is_taken_now}
+use Rattle.laws_sound.specs.Legs.{OfferFits}
+use Rattle.msg_rounds.specs.Locks as round_locks
+use Rattle.laws_roles.proofs.Parts.{Part, Ghost, part_of, is_late, waits, changes_super, offered_role, offered_size, is_written_to, heard_role, heard_size, body_role, body_size, first_working, with_finish, finished_by}
+use Rattle.laws_roles.proofs.Ways.{Way, Ways, none, one, more, publishes, takes, hears, passes, resumes, rests, finishes, idles, goes, Hearing, Hearers, Whole, AreEight}
+use Rattle.laws_roles.proofs.Known.{Known, state_body, state_role, state_size, are_eight}
+use Rattle.laws_roles.proofs.Rows.{with_twice}
+
+after_live : (core : Core) (n : ℕ) (gs : List (Option Refusal)) → first_of (of_live core n gs) ≡ None → first_of gs ≡ None
+after_live core n gs e =
+    (first_none (unless (not (is_out (core.state n))) (NotUp n)) gs
+    (first_none (not_fenced core n) (unless (not (is_out (core.state n))) (NotUp n) ∷ gs)
+    (first_none (no_node core n) (not_fenced core n ∷ unless (not (is_out (core.state n))) (NotUp n) ∷ gs) e).1).1).1
+
+due_leg : (core : Core) (n : ℕ) (o : Offer) (w : Wish) → is_metadata w ≡ true → first_of (wish_is_due core n o w) ≡ None → unwritten_leg o ≡ None
+due_leg core n o wishes.Meta m e = refused_none NotWritten (unwritten_leg o) (all_none (wish_is_due core n o wishes.Meta) e).0
+due_leg core n o (wishes.Spare l) m e = refused_none NotWritten (unwritten_leg o) (all_none (wish_is_due core n o (wishes.Spare l)) e).0
+due_leg core n o (wishes.Rebuild l) m e = refused_none NotWritten (unwritten_leg o) (all_none (wish_is_due core n o (wishes.Rebuild l)) e).0
+due_leg core n o (wishes.Work l) m e = refused_none NotWritten (unwritten_leg o) (all_none (wish_is_due core n o (wishes.Work l)) e).0
+due_leg core n o (wishes.Grow z) m e = refused_none NotWritten (unwritten_leg o) (all_none (wish_is_due core n o (wishes.Grow z)) e).0
+due_leg core n o w m e = cc
+
+written_there : (a b : Bool) → (a && not b) ≡ false → a ≡ true → b ≡ true
+written_there a b e h = grind arith
+
+spare_unwritten : (r : Role) → r ≡ Spare → is_written r ≡ true → ⊥
+spare_unwritten r e w = cc
+
+leg_written : (o : Offer) (legs l : ℕ) → ((j : ℕ) → legs ≤ j → o.role j ≡ Spare) → legs ≤ 8 → unwritten_leg o ≡ None → is_written (o.role l) ≡ true → o.written l ≡ true
+leg_written o legs l spare le all e = elim (cases_lt l 8) [
+  | inl lt ↦ written_there (is_written (o.role l)) (o.written l) (first_such_none (λ j. is_written (o.role j) && not (o.written j)) 0 8 all l (omega arith) (omega (arith, lt))) e
+  | inr past ↦ absurd (spare_unwritten (o.role l) (spare l (omega (arith, past, le))) e)
+]
+
+-- some leg works, so the first does
+works_found : (role : ℕ → Role) (x : Option ℕ) → first_such (λ l. is_working (role l)) 0 8 ≡ x → is_some x ≡ true → is_working (role (first_working role)) ≡ true
+works_found role None e some = cc
+works_found role (Some l) e some = let p = (first_such_some (λ j. is_working (role j)) 0 8 l e).passes in rw e p
+
+not_joining : (s : NodeState) → is_in s ≡ true → is_joining s ≡ false
+not_joining states.Loaded e = refl
+not_joining states.Up e = refl
+not_joining s e = cc
+
+processed_now : (r : ReceiverPhase) → may_resume r ≡ true → has_processed r ≡ true
+processed_now receivers.Waiting e = refl
+processed_now receivers.Ready e = refl
+processed_now r e = cc
+
+late_now : (r : Receiving) (heard : Option Msg) (s : SenderPhase) → has_processed r.phase ≡ true → (not r.gone && told_state heard) ≡ true → has_published s ≡ false → waits r heard s ≡ true
+late_now r heard s did told silent = grind arith
+
+not_late : (r : Receiving) (heard : Option Msg) (s : SenderPhase) → (not r.gone && told_state heard) ≡ false → waits r heard s ≡ false
+not_late r heard s other = grind arith
+
+taken_not_late : (r : Receiving) (heard : Option Msg) (s : SenderPhase) → r.phase ≡ receivers.Taken → waits r heard s ≡ false
+taken_not_late r heard s e = grind arith
+
+not_gone : (b : Bool) → not b ≡ true → b ≡ false
+not_gone b e = grind arith
+
+module _ (core : Core) (k : Known core) (sup : ℕ → Option Says) (g : Ghost) where
+  abbrev pub Here : Part
+  Here = part_of core sup g
+
+  its_offer : (n : ℕ) → stands (core.sender n) ≡ true → Standing (core.state n) (core.offer n)
+  its_offer n up = standing (core.state n) (core.sender n) (core.offer n) (k.rounded.offering.offers n) up
+
+  eight_of : (n : ℕ) (o : Offer) → core.offer n ≡ Some o → AreEight o.role
+  eight_of n o is = are_eight (sizes core) o.role k.range.legs.sizes_fit (k.range.legs.offers n o is).roles
+
+  -- Publishing.
+
+  due : (n : ℕ) (o : Offer) → core.offer n ≡ Some o → first_of (wish_is_due core n o o.wish) ≡ None
+      → changes_super (core.offer n) ≡ true → (l : ℕ) → is_written (offered_role (core.offer n) l) ≡ true → is_written_to (core.offer n) l ≡ true
+  due n o is ok meta l e =
+      let f = k.range.legs.offers n o is in
+      let all = due_leg core n o o.wish (sym (ap changes_super is) ∙ meta) ok in
+      subst (λ x. is_written_to x l ≡ true) (sym is)
+      (leg_written o (sizes core).legs l f.roles k.range.legs.sizes_fit.legs.1 all (subst (λ x. is_written (offered_role x l) ≡ true) is e))
+
+  publish_by : (n : ℕ) (o : Offer) (w : Wish) → Way Here (record Here { sender = with_at core.sender n senders.Published })
+      → Ways Here (part_of (publish_wish (record (sender_now core n senders.Published) { locks = device_unlocked (round_locks.published core.locks n (block_of core n o)) n }) n w) sup g)
+  publish_by n o (wishes.Range r) x = one x
+  publish_by n o w x = one x
+
+  pub publish_way : (n : ℕ) → first_of (publish_guards core n) ≡ None → Ways Here (part_of (publish core n) sup g)
+  publish_way n ok =
+      let first = sender_is core n (is_offered (core.sender n)) in
+      let one = first_none first (offer_is_due core n (core.offer n)) (after_live core n (first ∷ offer_is_due core n (core.offer n)) ok) in
+      let up = offered_stands (core.sender n) (unless_none (is_offered (core.sender n)) _ one.0) in
+      let s = its_offer n up.0 in
+      let calm : (m : ℕ) → is_idle (core.receiver m).phase ≡ true = λ m. ap is_idle (k.rounded.phased.calm n m up.1) in
+      subst (λ x. Ways Here (part_of (publish_offer core n x) sup g)) (sym s.is)
+      (publish_by n s.offer s.offer.wish (publishes n calm (due n s.offer s.is (subst (λ x. first_of (offer_is_due core n x) ≡ None) s.is one.1))))
+
+  -- Receiving.
+
+  pub take_way : (n : ℕ) → first_of (take_guards core n) ≡ None → Ways Here (part_of (take core n) sup g)
+  take_way n ok = one (takes n (called_by core n) (published_message core) (unless_none (is_idle (core.receiver n).phase) _ (all_none (take_guards core n) ok).1.1.1.1.0))
+
+  -- the message is that of the sender's standing offer
+  hearing : (n events size : ℕ) (roles : Roles) (m : Msg) → is_taken (core.receiver n).phase ≡ true → (core.receiver n).gone ≡ false → core.heard n ≡ Some m
+      → is_state_body m.body ≡ true → ((l : ℕ) → role_of roles l ≡ body_role m.body l) → size ≡ body_size m.body → Hearing Here n (role_of roles) size
+  hearing n events size roles m t gone e state role_is size_is =
+      let from = (core.receiver n).from in
+      let said = k.rounded.phased.calls n (is_taken_now (core.receiver n).phase t) gone in
+      let s = its_offer from (published_stands (core.sender from) said) in
+      let both : Some m ≡ Some (message_of core from s.offer) = sym e ∙ k.read.taken n s.offer t gone s.is in
+      let same : m ≡ message_of core from s.offer = cc in
+      let meta : is_metadata s.offer.wish ≡ true = sym (state_body core s.offer s.offer.wish) ∙ sym (ap (λ (x : Msg). is_state_body x.body) same) ∙ state in
+      record {
+        says_role = λ l. role_is l ∙ sym (ap (λ x. heard_role x l) e);
+        says_size = size_is ∙ sym (ap heard_size e);
+        offer = ap changes_super s.is ∙ meta;
+        offered = λ l. role_is l ∙ ap (λ (x : Msg). body_role x.body l) same ∙ state_role core s.offer s.offer.wish l meta ∙ eight_of from s.offer s.is l ∙ sym (ap (λ x. offered_role x l) s.is);
+        offered_size = size_is ∙ ap (λ (x : Msg). body_size x.body) same ∙ state_size core s.offer s.offer.wish meta ∙ sym (ap offered_size s.is);
+        published = said;
+      }
+
+  body_by : (n : ℕ) (m : Msg) (b : Body) → m.body ≡ b → is_taken (core.receiver n).phase ≡ true → (core.receiver n).gone ≡ false → core.heard n ≡ Some m
+      → Ways Here (part_of (record (receiver_now (do_body core n (core.receiver n).from b) n receivers.Waiting) { locks = message_processed (do_body core n (core.receiver n).from b).locks n }) sup g)
+  body_by n m (bodies.Metadata events roles size) b t gone e = one (hears n roles size (hearing n events size roles m t gone e (ap is_state_body b) (λ l. sym (ap (λ x. body_role x l) b)) (sym (ap body_size b))))
+  body_by n m (bodies.Capacity events roles size) b t gone e = one (hears n roles size (hearing n events size roles m t gone e (ap is_state_body b) (λ l. sym (ap (λ x. body_role x l) b)) (sym (ap body_size b))))
+  body_by n m x b t gone e = one (passes n (ap told_state e ∙ ap is_state_body b))
+
+  message_by : (n : ℕ) (x : Option Msg) → core.heard n ≡ x → is_taken (core.receiver n).phase ≡ true → (core.receiver n).gone ≡ false
+      → Ways Here (part_of (record (receiver_now (do_message core n x) n receivers.Waiting) { locks = message_processed (do_message core n x).locks n }) sup g)
+  message_by n None e t gone = one (passes n (ap told_state e))
+  message_by n (Some m) e t gone = body_by n m m.body refl t gone e
+
+  pub process_way : (n : ℕ) → first_of (processed_guards core n) ≡ None → Ways Here (part_of (processed core n) sup g)
+  process_way n ok =
+      let first = receiver_is core n (is_taken (core.receiver n).phase) in
+      let second = unless (not (core.receiver n).gone) (SenderGone (core.receiver n).from) in
+      let one = first_none first (second ∷ draining_by core n (core.heard n)) (after_live core n (first ∷ second ∷ draining_by core n (core.heard n)) ok) in
+      let two = first_none second (draining_by core n (core.heard n)) one.1 in
+      message_by n (core.heard n) refl (unless_none _ _ one.0) (not_gone (core.receiver n).gone (unless_none _ _ two.0))
+
+  resume_by : (n : ℕ) (b : Bool) → (not (core.receiver n).gone && told_state (core.heard n)) ≡ b → has_processed (core.receiver n).phase ≡ true → has_published (core.sender (core.receiver n).from) ≡ false
+      → Ways Here (part_of (record (receiver_idle (if b then record core { view = with_at core.view n (acknowledged (core.view n)) } else core) n) { locks = round_locks.resumed core.locks n }) sup g)
+  resume_by n true e did silent = one (resumes n (late_now (core.receiver n) (core.heard n) (core.sender (core.receiver n).from) did e silent))
+  resume_by n false e did silent = one (rests n (not_late (core.receiver n) (core.heard n) (core.sender (core.receiver n).from) e))
+
+  pub resume_way : (n : ℕ) → first_of (resume_guards core n) ≡ None → Ways Here (part_of (resume core n) sup g)
+  resume_way n ok =
+      let a = (all_none (resume_guards core n) ok).1.1.1 in
+      let did = processed_now (core.receiver n).phase (unless_none (may_resume (core.receiver n).phase) _ a.0) in
+      let pr = unless_none (is_pr ((core.locks message_res).held n)) (NotGranted resources.Message) a.1.0 in
+      resume_by n (not (core.receiver n).gone && told_state (core.heard n)) refl did (k.heard.read n pr (core.receiver n).from)
+
+  pub drop_way : (n : ℕ) → first_of (drop_guards core n) ≡ None → Ways Here (part_of (drop_message core n) sup g)
+  drop_way n ok =
+      let a = (all_none (drop_guards core n) ok).1.1.1 in
+      one (rests n (taken_not_late (core.receiver n) (core.heard n) (core.sender (core.receiver n).from) (is_taken_now (core.receiver n).phase (unless_none (is_taken (core.receiver n).phase) _ a.0))))
+
+  -- Finishing.
+
+  says_there : (n m : ℕ) (o : Offer) → core.offer n ≡ Some o → has_published (core.sender n) ≡ true → is_idle (core.receiver m).phase ≡ false → core.heard m ≡ Some (message_of core n o)
+  says_there n m o is p b = k.read.heard m b ∙ k.read.published n o p is
+
+  hearers : (n : ℕ) (o : Offer) → core.offer n ≡ Some o → has_published (core.sender n) ≡ true → Hearers Here n
+  hearers n o is p = record {
+    from = λ m b. k.heard.from n m p b;
+    gone = λ m b. k.heard.gone n m p b;
+    told = λ m b. ap told_state (says_there n m o is p b) ∙ state_body core o o.wish ∙ sym (ap changes_super is);
+    role = λ m l b meta. ap (λ x. heard_role x l) (says_there n m o is p b) ∙ state_role core o o.wish l (sym (ap changes_super is) ∙ meta) ∙ eight_of n o is l ∙ sym (ap (λ x. offered_role x l) is);
+    size = λ m b meta. ap heard_size (says_there n m o is p b) ∙ state_size core o o.wish (sym (ap changes_super is) ∙ meta) ∙ sym (ap offered_size is);
+  }
+
+  -- nobody else has an offer
+  others_none : (n : ℕ) → has_token (core.sender n) ≡ true → (m : ℕ) → m ≢ n → core.offer m ≡ None
+  others_none n has m ne = no_offer (core.state m) (core.sender m) (core.offer m) (k.rounded.offering.offers m) (by (stands (core.sender m)) refl)
+    where
+      holds : (s : SenderPhase) → stands s ≡ true → has_token s ≡ true
+      holds senders.Offered e = refl
+      holds senders.Published e = refl
+      holds senders.Granted e = refl
+      holds s e = cc
+
+      by : (b : Bool) → stands (core.sender m) ≡ b → stands (core.sender m) ≡ false
+      by false e = e
+      by true e = absurd (ne (k.rounded.phased.alone m n (holds (core.sender m) e) has))
+
+  granted_is : (s : SenderPhase) → is_granted s ≡ true → s ≡ senders.Granted
+  granted_is senders.Granted e = refl
+  granted_is s e = cc
+
+  whole : (n : ℕ) (o : Offer) → core.offer n ≡ Some o → is_metadata o.wish ≡ true → core.sender n ≡ senders.Granted → is_in (core.state n) ≡ true → Whole Here n o
+  whole n o is meta s up = record {
+    offer = is;
+    meta = meta;
+    others = others_none n (ap has_token s);
+    inside = up;
+    published = ap has_published s;
+    idle = ap is_idle (k.rounded.phased.sending n (ap may_receive s));
+    eight = eight_of n o is;
+    works = works_found o.role (first_such (λ l. is_working (o.role l)) 0 8) refl (k.leg.offered n o is);
+    hearers = hearers n o is (ap has_published s);
+    processed = λ m ne inside. k.rounded.phased.processed n m s ne inside;
+  }
+
+  -- a round that doesn't change the superblock
+  idle_way : (n : ℕ) (o : Offer) → core.offer n ≡ Some o → is_metadata o.wish ≡ false → is_in (core.state n) ≡ true
+      → Way Here (record Here { sender = with_at core.sender n senders.Idle; offer = with_at core.offer n None })
+  idle_way n o is other up = idles n (not_joining (core.state n) up) (λ m p b. ap told_state (says_there n m o is p b) ∙ state_body core o o.wish ∙ other)
+
+  finish_by : (n : ℕ) (o : Offer) (w : Wish) → o.wish ≡ w → core.offer n ≡ Some o → core.sender n ≡ senders.Granted → is_in (core.state n) ≡ true
+      → Ways Here (part_of (finish_wish (round_over core n) n o w) sup (if is_metadata w then with_finish g o else g))
+  finish_by n o (wishes.Range r) w is s up = one (idle_way n o is (ap is_metadata w) up)
+  finish_by n o (wishes.NewDisk l) w is s up = one (idle_way n o is (ap is_metadata w) up)
+  finish_by n o (wishes.Remove l) w is s up = one (idle_way n o is (ap is_metadata w) up)
+  finish_by n o (wishes.ReAdd l) w is s up = one (idle_way n o is (ap is_metadata w) up)
+  finish_by n o wishes.Unclean w is s up =
+      subst (λ x. Ways Here (record (part_of (finish_wish (round_over core n) n o wishes.Unclean) sup g) { sender = x })) (with_twice core.sender n senders.Idle)
+      (more (one (idle_way n o is (ap is_metadata w) up)) (goes n (idle_silent n) (ap is_idle (k.rounded.phased.sending n (ap may_receive s)))))
+    where
+      idle_silent : (n : ℕ) → has_published (with_at core.sender n senders.Idle n) ≡ false
+      idle_silent n = let e : (n == n) ≡ true = grind (arith, nat_tests) in rw e refl
+  finish_by n o x w is s up = one (finishes n o (whole n o is (ap is_metadata w) s up))
+
+  pub finish_way : (n : ℕ) → first_of (finish_guards core n) ≡ None → Ways Here (part_of (finish core n) sup (finished_by g (core.offer n)))
+  finish_way n ok =
+      let a = (all_none (finish_guards core n) ok).1.1.1 in
+      let granted = granted_is (core.sender n) (unless_none (is_granted (core.sender n)) _ a.0) in
+      let s = its_offer n (ap stands granted) in
+      subst (λ x. Ways Here (part_of (finish_offer core n x) sup (finished_by g x))) (sym s.is) (finish_by n s.offer s.offer.wish refl s.is granted s.up)
