@@ -11,3 +11,6 @@ pub mod Known
 pub mod Rows
 pub mod OfferRows
 pub mod RoundRows
+pub mod OtherRows
+pub mod Standing
+pub mod SuperRows

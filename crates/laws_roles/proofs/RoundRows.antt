@@ -211,7 +211,7 @@ module _ (core : Core) (k : Known core) (sup : ℕ → Option Says) (g : Ghost) 
   }
 
   -- nobody else has an offer
-  others_none : (n : ℕ) → has_token (core.sender n) ≡ true → (m : ℕ) → m ≢ n → core.offer m ≡ None
+  pub others_none : (n : ℕ) → has_token (core.sender n) ≡ true → (m : ℕ) → m ≢ n → core.offer m ≡ None
   others_none n has m ne = no_offer (core.state m) (core.sender m) (core.offer m) (k.rounded.offering.offers m) (by (stands (core.sender m)) refl)
     where
       holds : (s : SenderPhase) → stands s ≡ true → has_token s ≡ true
