@@ -14,3 +14,5 @@ pub mod RoundRows
 pub mod OtherRows
 pub mod Standing
 pub mod SuperRows
+pub mod Opening
+pub mod Runs
