@@ -16,3 +16,4 @@ pub mod Standing
 pub mod SuperRows
 pub mod Opening
 pub mod Runs
+pub mod Promises

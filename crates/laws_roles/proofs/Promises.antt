@@ -1,0 +1,228 @@
+-- What follows at each place: who may be read.
+use Rattle.std.proofs.Common.{◌≡◌, ◌⊎◌, inl, inr, ℕ, ◌<◌, ◌≤◌, ◌==◌, ◌&&◌, ◌||◌, not, Bool, true, false, if◌then◌else◌, List, [], ◌∷◌, ◌++◌, Option, Some, None, refl, sym, ap, subst, ◌∙◌, arith}
+use Rattle.std.specs.Prelude.{is_some}
+use Rattle.std.proofs.lemmas.Bool.Decides.{nat_tests}
+use Rattle.dlm_modes.proofs.FirstLaws.{first_such_none}
+use Rattle.mdc_types.specs.Roles.{role_of, is_working, is_written, some_works}
+use Rattle.mdc_types.specs.declared.events.Event.{Event}
+use Rattle.mdc_types.specs.declared.events.Event.TheVariants as events
+use Rattle.mdc_types.specs.declared.outcomes.Entry.{Entry}
+use Rattle.mdc_types.specs.declared.roles.Role.{Role}
+use Rattle.mdc_types.specs.declared.roles.Role.TheVariants.{Working}
+use Rattle.mdc_types.specs.declared.roles.NodeState.{NodeState}
+use Rattle.mdc_types.specs.declared.roles.NodeState.TheVariants as states
+use Rattle.md_superblock.specs.Arrays.{Array, Says}
+use Rattle.leg_failure.specs.Sets.{is_same}
+use Rattle.leg_failure.specs.Views.{NodeView, works, is_target, is_unacked, unacked_leg}
+use Rattle.cluster_model.specs.State.{State, Core, Offer, sizes}
+use Rattle.cluster_model.specs.Phases.{is_in, is_up, is_metadata}
+use Rattle.cluster_model.specs.Opening.{Origin, array_of}
+use Rattle.cluster_model.specs.Contents.{Opens}
+use Rattle.cluster_model.specs.Recovered.{Place}
+use Rattle.cluster_model.specs.Run.{Run}
+use Rattle.cluster_model.specs.Served.{Served, Current, CalledIn, Trusted, Shut}
+use Rattle.cluster_model.specs.Size.{Size, WasSure}
+use Rattle.cluster_model.specs.Stored.{super_on}
+use Rattle.laws_sound.proofs.Supers.{says_fit}
+use Rattle.laws_locks.specs.Following.{core_after}
+use Rattle.laws_roles.specs.Agreed.{Agreed, agreed_on, agreed_after, agreed_in}
+use Rattle.laws_roles.specs.Laws.{Tells, RunsAreShut, Superblocks, RunsHaveSuperblocks, RunsKeepTheSize, SuperblocksKeepALeg, RolesHold, RunsHaveRoles}
+use Rattle.laws_roles.proofs.Parts.{Part, Ghost, part_of, supers, number, said_role, said_size, is_late, ghost_after, ghost_in, finished_by, with_finish, with_wish, with_promoted}
+use Rattle.laws_roles.proofs.Numbers.{Numbers}
+use Rattle.laws_roles.proofs.Roles.{Roles}
+use Rattle.laws_roles.proofs.Sizes.{SizesHold}
+use Rattle.laws_roles.proofs.Opening.{says_leg}
+use Rattle.laws_roles.proofs.Runs.{Holds, At, home, holds, grows, array_is}
+use Rattle.laws_roles.proofs.Known.{known}
+
+-- What was agreed on is a word of its own.
+
+finished_agreed : (g : Ghost) (x : Option Offer) → (finished_by g x).agreed ≡ agreed_on g.agreed x
+finished_agreed g None = refl
+finished_agreed g (Some o) = by (is_metadata o.wish)
+  where
+    by : (b : Bool) → (if b then with_finish g o else g).agreed ≡ (if b then record { role = o.role; size = o.size } else g.agreed)
+    by true = refl
+    by false = refl
+
+after_agreed : (core : Core) (e : Event) (g : Ghost) → (ghost_after core e g).agreed ≡ agreed_after core e g.agreed
+after_agreed core (events.FinishRound n) g = finished_agreed g (core.offer n)
+after_agreed core (events.Offer n wish) g = by (is_metadata wish)
+  where
+    by : (b : Bool) → (if b then with_promoted g wish else g).agreed ≡ g.agreed
+    by true = refl
+    by false = refl
+after_agreed core e g = refl
+
+pub ghost_agreed : (o : Origin) (home : ℕ) (past : List Entry) → (ghost_in o home past).agreed ≡ agreed_in o past
+ghost_agreed o home [] = refl
+ghost_agreed o home (x ∷ past) =
+    after_agreed (core_after o past) x.event (ghost_in o home past) ∙ ap (agreed_after (core_after o past) x.event) (ghost_agreed o home past)
+
+-- In one state.
+
+same_role : (r s : Role) → is_same r s ≡ true → r ≡ s
+same_role r s e = grind arith
+
+acked : (lost same : Bool) → (lost || not same) ≡ false → (lost ≡ false) × (same ≡ true)
+acked lost same e = grind arith
+
+up_is : (s : NodeState) → s ≡ states.Up → is_up s ≡ true
+up_is s e = ap is_up e
+
+up_in : (s : NodeState) → s ≡ states.Up → is_in s ≡ true
+up_in s e = ap is_in e
+
+works_role : (w lost : Bool) → (w && not lost) ≡ true → w ≡ true
+works_role w lost e = grind arith
+
+working_is : (r : Role) → r ≡ Working → is_working r ≡ true
+working_is r e = ap is_working e
+
+targeted : (written lost unacked : Bool) → written ≡ true → lost ≡ false → (written && not lost) ≡ true
+targeted written lost unacked w l = grind arith
+
+module _ (w : Part) (e : Numbers w) (r : Roles w) where
+  -- an up node that has nothing unacked of a leg gives it the role that was agreed on
+  pub legwise : (n l : ℕ) → w.state n ≡ states.Up → is_unacked (w.view n) l ≡ false → ((w.view n).lost l ≡ false) × ((w.view n).role l ≡ w.ghost.agreed.role l)
+  legwise n l up known =
+      let two = acked ((w.view n).lost l) (is_same ((w.view n).role l) ((w.view n).sure_role l)) known in
+      let same = same_role ((w.view n).role l) ((w.view n).sure_role l) two.1 in
+      (two.0, by (is_late w n) refl same)
+    where
+      by : (b : Bool) → is_late w n ≡ b → (w.view n).role l ≡ (w.view n).sure_role l → (w.view n).role l ≡ w.ghost.agreed.role l
+      by true late same = r.late_roles n l late
+      by false late same = same ∙ r.sure_roles n l (up_is (w.state n) up) late
+
+  -- a good leg is a target of each up node, or unacked there
+  pub good_target : (n l : ℕ) → w.state n ≡ states.Up → w.ghost.good l ≡ true → (is_target (w.view n) l ≡ true) ⊎ (is_unacked (w.view n) l ≡ true)
+  good_target n l up good = by (is_unacked (w.view n) l) refl
+    where
+      by : (b : Bool) → is_unacked (w.view n) l ≡ b → (is_target (w.view n) l ≡ true) ⊎ (is_unacked (w.view n) l ≡ true)
+      by true known = inr known
+      by false known =
+          let is = legwise n l up known in
+          inl (targeted (is_written ((w.view n).role l)) ((w.view n).lost l) false (ap is_written is.1 ∙ r.good_written l good) is.0)
+
+  pub served_good : (n l : ℕ) → w.state n ≡ states.Up → works (w.view n) l ≡ true → w.ghost.good l ≡ true
+  served_good n l up works_there = r.view_good n l (up_in (w.state n) up) (works_role (is_working ((w.view n).role l)) ((w.view n).lost l) works_there)
+
+not_both : (b : Bool) → b ≡ false → b ≡ true → ⊥
+not_both b f t = cc
+
+-- Along runs.
+
+module _ (o : Origin) (start end : State) (past : List Entry) (opens : Opens o start) (tells : Tells o start) (run : Run start past end) where
+  h : Holds o.sizes.legs (At o start opens tells past end)
+  h = holds o start opens tells past end run
+
+  W : Part
+  W = At o start opens tells past end
+
+  array : end.core.array ≡ array_of o
+  array = array_is o start end past opens run
+
+  served_here : (l : ℕ) → Served end l → (ghost_in o (home o start opens tells) past).good l ≡ true
+  served_here l s = served_good (At o start opens tells past end) h.numbers h.roles s.node l s.up s.works
+
+  stands_here : (k : ℕ) (says : Says) → super_on end.core.array end.legs k ≡ Some says → supers (array_of o) end.legs k ≡ Some says
+  stands_here k says is = subst (λ a. supers a end.legs k ≡ Some says) array is
+
+  called_here : (l : ℕ) → CalledIn end Working l → (ghost_in o (home o start opens tells) past).good l ≡ true
+  called_here l c =
+      let is = stands_here c.leg c.current.says c.current.stands in
+      h.roles.super_good c.leg l (subst (λ x. end.core.members.completed ≤ number x) (sym is) c.current.new)
+      (ap (λ x. is_working (said_role x l)) is ∙ ap is_working c.called)
+
+  trusted_here : (l : ℕ) → Trusted end l → (ghost_in o (home o start opens tells) past).good l ≡ true
+  trusted_here l (inl s) = served_here l s
+  trusted_here l (inr c) = called_here l c
+
+  pub shut_here : Shut end
+  shut_here n l up no_target known served =
+      elim (good_target (At o start opens tells past end) h.numbers h.roles n l up (served_here l served)) [
+        | inl t ↦ not_both (is_target (end.core.view n) l) no_target t
+        | inr u ↦ not_both (is_unacked (end.core.view n) l) known u
+      ]
+
+  agreed_role : (l : ℕ) → (ghost_in o (home o start opens tells) past).agreed.role l ≡ (agreed_in o past).role l
+  agreed_role l = ap (λ (a : Agreed). a.role l) (ghost_agreed o (home o start opens tells) past)
+
+  role_here : (n l : ℕ) → end.core.state n ≡ states.Up → is_unacked (end.core.view n) l ≡ false → (end.core.view n).role l ≡ (agreed_in o past).role l
+  role_here n l up known = (legwise (At o start opens tells past end) h.numbers h.roles n l up known).1 ∙ agreed_role l
+
+  pub roles_here : RolesHold (agreed_in o past) end
+  roles_here = record {
+    trusted = λ l t. ap is_written (sym (agreed_role l)) ∙ h.roles.good_written l (trusted_here l t);
+    written = λ n l up t. good_target (At o start opens tells past end) h.numbers h.roles n l up (trusted_here l t);
+    roles = role_here;
+    all_roles = λ n l up acknowledged lt.
+        let legs = (known o start end past opens run).range.legs.sizes_fit.legs.1 in
+        role_here n l up (first_such_none (is_unacked (end.core.view n)) 0 8 acknowledged l (omega arith) (omega (arith, lt, legs)));
+  }
+
+  -- Superblocks.
+
+  current_by : (k : ℕ) (x : Option Says) → super_on end.core.array end.legs k ≡ x → end.core.members.completed ≤ number x → Current end k
+  current_by k None is new = let least = h.numbers.some_completed in absurd (omega (arith, least, new))
+  current_by k (Some says) is new = record {
+    leg = (says_leg end.core.array k (end.legs.content k 8).bytes says is).leg;
+    says = says;
+    stands = is;
+    new = new;
+  }
+
+  current_at : (k : ℕ) → end.core.members.completed ≤ number (supers (array_of o) end.legs k) → Current end k
+  current_at k new = current_by k (super_on end.core.array end.legs k) refl (subst (λ a. end.core.members.completed ≤ number (supers a end.legs k)) (sym array) new)
+
+  pub superblocks_here : Superblocks end
+  superblocks_here = record {
+    each = λ k lt. subst (λ a. is_some (supers a end.legs k) ≡ true) (sym array) (h.each k (subst (λ (a : Array). k < a.sizes.legs) array lt));
+    current = ((ghost_in o (home o start opens tells) past).home, current_at (ghost_in o (home o start opens tells) past).home h.numbers.home_current);
+    served = λ l s. current_at l (h.numbers.written_current s.node l (up_is (end.core.state s.node) s.up) (h.roles.good_written l (served_here l s)));
+    same = λ j k a b is_a is_b e. same_by j k a b (stands_here j a is_a) (stands_here k b is_b) e;
+  }
+    where
+      same_by : (j k : ℕ) (a b : Says) → supers (array_of o) end.legs j ≡ Some a → supers (array_of o) end.legs k ≡ Some b → a.events ≡ b.events → a ≡ b
+      same_by j k a b is_a is_b e =
+          let both = h.numbers.same_says j k (ap number is_a ∙ e ∙ sym (ap number is_b)) in
+          let equal : Some a ≡ Some b = sym is_a ∙ both ∙ is_b in
+          cc
+
+  -- Sizes.
+
+  sure_below_here : (size : ℕ) → WasSure start past end size → size ≤ (ghost_in o (home o start opens tells) past).agreed.size
+  sure_below_here size s =
+      let there = holds o start opens tells s.before s.place.state s.place.before in
+      let below = there.sizes.sure_below s.node (up_is (s.place.state.core.state s.node) s.up) in
+      let grown = grows o start opens tells s.later s.before end (subst (λ x. Run start x end) s.split run) in
+      let at_end = subst (λ x. (ghost_in o (home o start opens tells) s.before).agreed.size ≤ (ghost_in o (home o start opens tells) x).agreed.size) (sym s.split) grown in
+      omega (arith, below, at_end, s.sure)
+
+  pub size_here : Size start past end
+  size_here = record {
+    nodes = λ size n s inside. let a = sure_below_here size s in let b = h.sizes.view_size n inside in omega (arith, a, b);
+    supers = λ size k says s lt is even.
+        let here = stands_here k says is in
+        let a = sure_below_here size s in
+        let b = h.sizes.super_size k (subst (λ x. end.core.members.completed ≤ number x) (sym here) (omega (arith, even))) in
+        let c = ap said_size here in
+        omega (arith, a, b, c);
+  }
+
+-- The laws.
+
+pub runs_are_shut : RunsAreShut
+runs_are_shut o start end past opens tells run = shut_here o start end past opens tells run
+
+pub runs_have_roles : RunsHaveRoles
+runs_have_roles o start end past opens tells run = roles_here o start end past opens tells run
+
+pub runs_have_superblocks : RunsHaveSuperblocks
+runs_have_superblocks o start end past opens tells run = superblocks_here o start end past opens tells run
+
+pub runs_keep_the_size : RunsKeepTheSize
+runs_keep_the_size o start end past opens tells run = size_here o start end past opens tells run
+
+pub superblocks_keep_a_leg : SuperblocksKeepALeg
+superblocks_keep_a_leg state k says is = (says_fit state.core.array k (state.legs.content k 8).bytes says is).working
