@@ -1,12 +1,10 @@
 -- What is known at each place of a run: phases and locks, ranges, messages, and who hears whom.
-use Rattle.std.proofs.Common.{◌≡◌, inl, inr, ℕ, ◌<◌, ◌≤◌, ◌==◌, ◌&&◌, Bool, true, false, if◌then◌else◌, List, [], ◌∷◌, Option, Some, None, refl, sym, ap, subst, ◌∙◌, arith}
+use Rattle.std.proofs.Common.{◌≡◌, inl, inr, ℕ, Bool, true, false, List, [], ◌∷◌, Option, Some, None, refl, sym, subst, ◌∙◌, arith}
 use Rattle.std.proofs.lemmas.Bool.{cases_lt}
 use Rattle.std.proofs.lemmas.Bool.Decides.{nat_tests}
 use Rattle.dlm_modes.specs.declared.mode.Mode.{Mode}
-use Rattle.dlm_modes.specs.declared.mode.Mode.TheVariants.{CR, CW, PR, EX}
+use Rattle.dlm_modes.specs.declared.mode.Mode.TheVariants.{CR, PR, EX}
 use Rattle.dlm_space.specs.Queues.{asks_of}
-use Rattle.dlm_space.specs.Locks.{Lock}
-use Rattle.dlm_space.specs.declared.ask.Ask.{Ask}
 use Rattle.mdc_types.specs.Roles.{role_of, eight}
 use Rattle.mdc_types.proofs.RolesLaws.{role_of-eight, role_of-eight_past}
 use Rattle.mdc_types.specs.Geometry.{Sizes, IsGeometry}
@@ -14,12 +12,9 @@ use Rattle.mdc_types.specs.declared.events.Wish.{Wish}
 use Rattle.mdc_types.specs.declared.events.Wish.TheVariants as wishes
 use Rattle.mdc_types.specs.declared.outcomes.Entry.{Entry}
 use Rattle.mdc_types.specs.declared.roles.Role.{Role}
-use Rattle.cluster_msgs.specs.declared.msg.Body.{Body}
-use Rattle.cluster_msgs.specs.declared.msg.Body.TheVariants as bodies
-use Rattle.cluster_msgs.specs.declared.msg.Msg.{Msg}
 use Rattle.msg_rounds.specs.Holds.{token_request, message_request, message_conversion, ack_conversion}
 use Rattle.msg_rounds.specs.Locks.{token_res, message_res, ack_res}
-use Rattle.msg_rounds.specs.Phases.{is_idle, has_published, has_processed, may_receive}
+use Rattle.msg_rounds.specs.Phases.{is_idle, has_published}
 use Rattle.msg_rounds.specs.Refusals.{is_pr}
 use Rattle.msg_rounds.specs.declared.phases.SenderPhase.{SenderPhase}
 use Rattle.msg_rounds.specs.declared.phases.SenderPhase.TheVariants as senders
@@ -27,12 +22,12 @@ use Rattle.msg_rounds.specs.declared.phases.ReceiverPhase.{ReceiverPhase}
 use Rattle.msg_rounds.specs.declared.phases.ReceiverPhase.TheVariants as receivers
 use Rattle.laws_rounds.specs.Invariants.{Inv, fits}
 use Rattle.laws_rounds.specs.Machine as rounds
-use Rattle.cluster_model.specs.State.{State, Core, Offer, sizes}
-use Rattle.cluster_model.specs.Phases.{is_metadata, offers}
+use Rattle.cluster_model.specs.State.{State, Core, Offer}
+use Rattle.cluster_model.specs.Phases.{is_metadata}
 use Rattle.cluster_model.specs.Opening.{Origin, is_member}
 use Rattle.cluster_model.specs.Contents.{Opens}
-use Rattle.cluster_model.specs.Publishing.{body_of, message_of}
-use Rattle.cluster_model.specs.Receiving.{told_state, is_state_body}
+use Rattle.cluster_model.specs.Publishing.{body_of}
+use Rattle.cluster_model.specs.Receiving.{is_state_body}
 use Rattle.cluster_model.specs.Run.{Run}
 use Rattle.laws_locks.specs.Following.{rounds_at, core_after, AreAccepted, rounds_in}
 use Rattle.laws_locks.specs.Rounded.{Rounded}
@@ -40,9 +35,9 @@ use Rattle.laws_locks.proofs.Keeping.{Kept, inv_at}
 use Rattle.laws_locks.proofs.Runs.{run_kept, run_is}
 use Rattle.laws_locks.proofs.Facts.{rounded}
 use Rattle.laws_sound.specs.Laws.{InRange, KeepsALeg, MessagesRead, OffersWritten}
-use Rattle.laws_sound.specs.Legs.{SpareBeyond, LegsFit}
+use Rattle.laws_sound.specs.Legs.{SpareBeyond}
 use Rattle.laws_sound.proofs.Runs.{runs_are_in_range, runs_keep_a_leg, messages_are_read, offers_are_written}
-use Rattle.laws_roles.proofs.Parts.{body_role, body_size, heard_role, heard_size}
+use Rattle.laws_roles.proofs.Parts.{body_role, body_size}
 use Rattle.laws_roles.proofs.Ways.{AreEight}
 
 -- who asks for a lock, by its queues

@@ -1,5 +1,5 @@
 -- Each way keeps what receivers took and what up nodes are sure of.
-use Rattle.std.proofs.Common.{◌≡◌, ℕ, ◌≤◌, ◌==◌, ◌&&◌, ◌||◌, Bool, true, false, if◌then◌else◌, arith}
+use Rattle.std.proofs.Common.{arith}
 use Rattle.std.proofs.lemmas.Bool.Decides.{nat_tests}
 use Rattle.laws_roles.proofs.Parts.{Part}
 use Rattle.laws_roles.proofs.Ways.{Way, speaks, voids, readies, joins, comes, goes, dies, offers, offers_other, publishes, loses, finishes, idles, takes, hears, passes, resumes, rests}

@@ -1,13 +1,11 @@
 -- The ways of an offer.
-use Rattle.std.proofs.Common.{◌≡◌, ◌⊎◌, inl, inr, ℕ, ◌+◌, ◌<◌, ◌≤◌, ◌==◌, ◌&&◌, ◌||◌, Bool, true, false, not, if◌then◌else◌, List, [], ◌∷◌, Option, Some, None, refl, sym, ap, subst, ◌∙◌, arith, nat_lt}
+use Rattle.std.proofs.Common.{◌≡◌, ◌⊎◌, inl, inr, ℕ, ◌<◌, ◌≤◌, ◌==◌, ◌&&◌, ◌||◌, Bool, true, false, not, if◌then◌else◌, ◌∷◌, Option, Some, None, refl, ap, subst, arith, nat_lt}
 use Rattle.std.proofs.lemmas.Bool.Decides.{nat_tests}
 use Rattle.dlm_modes.proofs.FirstLaws.{first_such_none}
 use Rattle.dlm_modes.specs.Guards.{first_of, unless, or_then}
-use Rattle.dlm_modes.specs.Points.{with_at}
 use Rattle.mdc_types.specs.Roles.{is_working, is_faulty, is_rebuilding, is_written}
 use Rattle.mdc_types.specs.declared.events.Wish.{Wish}
 use Rattle.mdc_types.specs.declared.events.Wish.TheVariants as wishes
-use Rattle.mdc_types.specs.declared.refusals.Refusal.{Refusal}
 use Rattle.mdc_types.specs.declared.refusals.Refusal.TheVariants.{NoLeg, NotRole, NotUp, NoSize, Unacked}
 use Rattle.mdc_types.specs.declared.roles.Role.{Role}
 use Rattle.mdc_types.specs.declared.roles.NodeState.{NodeState}
@@ -17,19 +15,18 @@ use Rattle.msg_rounds.specs.Phases.{is_idle, has_published, may_receive}
 use Rattle.msg_rounds.specs.Refusals.{is_message_held}
 use Rattle.msg_rounds.specs.declared.phases.SenderPhase.{SenderPhase}
 use Rattle.msg_rounds.specs.declared.phases.SenderPhase.TheVariants as senders
-use Rattle.disk_addition.specs.Wishes.{suits}
 use Rattle.leg_failure.specs.Sets.{is_same, given_up}
 use Rattle.leg_failure.specs.Views.{NodeView, is_unacked, unacked_leg, proposed_role}
 use Rattle.laws_rounds.specs.Invariants.{fits}
-use Rattle.cluster_model.specs.State.{Core, Offer, sizes}
-use Rattle.cluster_model.specs.Guards.{is_out, no_node, not_fenced, of_live, no_leg, unacked}
+use Rattle.cluster_model.specs.State.{Core, sizes}
+use Rattle.cluster_model.specs.Guards.{is_out, no_node, not_fenced}
 use Rattle.cluster_model.specs.Phases.{is_in, is_up, is_metadata, sender_is}
-use Rattle.cluster_model.specs.Wishes.{loaded_offers, wish_guards, offer_guards, unsuited, may_grow, with_change, proposed_size, offer_of, offered}
+use Rattle.cluster_model.specs.Wishes.{loaded_offers, wish_guards, offer_guards, may_grow, with_change, proposed_size, offer_of, offered}
 use Rattle.laws_locks.specs.Rounded.{has_token, stands}
 use Rattle.laws_sound.proofs.Guarded.{all_none, first_none, unless_none, refused_none}
 use Rattle.laws_sound.proofs.RoundFacts.{no_offer}
 use Rattle.laws_roles.proofs.Parts.{Part, Ghost, part_of, promotes, with_wish}
-use Rattle.laws_roles.proofs.Ways.{Way, Ways, one, offers, offers_other, Proposal}
+use Rattle.laws_roles.proofs.Ways.{Ways, one, offers, offers_other, Proposal}
 use Rattle.laws_roles.proofs.Known.{Known}
 
 -- Roles that are proposed.

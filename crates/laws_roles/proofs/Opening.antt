@@ -1,26 +1,25 @@
 -- What holds of the part at an opening.
-use Rattle.std.proofs.Common.{◌≡◌, ◌⊎◌, inl, inr, ℕ, ◌<◌, ◌≤◌, ◌+◌, ◌==◌, ◌&&◌, ◌||◌, Bool, true, false, if◌then◌else◌, length, List, Option, Some, None, refl, sym, ap, subst, ◌∙◌, arith}
-use Rattle.std.specs.Prelude.{is_some, is_none, nat_lt, option_and_then}
+use Rattle.std.proofs.Common.{◌≡◌, ◌⊎◌, inl, inr, ℕ, ◌<◌, ◌≤◌, ◌+◌, ◌&&◌, ◌||◌, Bool, true, false, if◌then◌else◌, length, List, Option, Some, None, refl, sym, ap, subst, ◌∙◌, arith}
+use Rattle.std.specs.Prelude.{nat_lt, option_and_then}
 use Rattle.std.proofs.lemmas.Bool.{cases_lt}
 use Rattle.std.proofs.lemmas.Bool.Decides.{nat_tests}
 use Rattle.std.proofs.lemmas.Nat.Bits.{bit_at-zero}
 use Rattle.mdc_types.specs.Bits.{has_bit}
-use Rattle.mdc_types.specs.Geometry.{nodes_of, data_offset_of, length_of}
+use Rattle.mdc_types.specs.Geometry.{nodes_of, data_offset_of}
 use Rattle.mdc_types.specs.Roles.{role_of, is_working, is_faulty, is_written}
 use Rattle.mdc_types.specs.declared.numbers.Sector.{Sector}
 use Rattle.mdc_types.specs.declared.roles.Role.{Role}
-use Rattle.mdc_types.specs.declared.roles.Role.TheVariants.{Spare}
 use Rattle.mdc_types.specs.declared.roles.NodeState.TheVariants as states
 use Rattle.md_superblock.specs.Superblock.{IsSuper}
-use Rattle.md_superblock.specs.Arrays.{Array, Says, super_for, spelled, says_in, super_in, is_of, says_of as said_of, version_of}
+use Rattle.md_superblock.specs.Arrays.{Array, Says, super_for, says_in, super_in, is_of, says_of as said_of, version_of}
 use Rattle.md_superblock.specs.declared.superblock.Super.{Super}
 use Rattle.md_superblock.proofs.ArrayLaws.{says_again}
-use Rattle.leg_failure.specs.Views.{NodeView, new_view}
-use Rattle.cluster_model.specs.State.{State, Legs}
+use Rattle.leg_failure.specs.Views.{new_view}
+use Rattle.cluster_model.specs.State.{State}
 use Rattle.cluster_model.specs.Changes.{no_view}
 use Rattle.cluster_model.specs.Phases.{is_in, is_up}
-use Rattle.cluster_model.specs.Opening.{Origin, IsOrigin, array_of, says_of, is_member, core_at, header_role}
-use Rattle.cluster_model.specs.Contents.{Opens, IsHeader, IsImages, HasImages, AllTell, header_sector}
+use Rattle.cluster_model.specs.Opening.{Origin, IsOrigin, array_of, says_of, is_member, core_at}
+use Rattle.cluster_model.specs.Contents.{Opens, IsHeader, IsImages}
 use Rattle.laws_sound.proofs.Supers.{super_is}
 use Rattle.laws_roles.specs.Laws.{Tells}
 use Rattle.laws_roles.proofs.Parts.{Part, part_of, supers, ghost_at, number, said_role, said_size}

@@ -1,12 +1,11 @@
 -- The way of each accepted event that writes no superblock.
-use Rattle.std.proofs.Common.{◌≡◌, ℕ, ◌==◌, ◌&&◌, Bool, true, false, if◌then◌else◌, Option, Some, None, refl, sym, ap, subst, ◌∙◌}
+use Rattle.std.proofs.Common.{◌≡◌, ℕ, Bool, true, false, Option, Some, None, refl, sym, ap, subst, ◌∙◌}
 use Rattle.dlm_modes.specs.Points.{with_at}
 use Rattle.mdc_types.specs.declared.numbers.Sector.{Sector}
 use Rattle.mdc_types.specs.declared.events.Event.{Event}
 use Rattle.mdc_types.specs.declared.events.Event.TheVariants as events
 use Rattle.mdc_types.specs.declared.outcomes.Outcome.{Outcome}
 use Rattle.mdc_types.specs.declared.outcomes.Outcome.TheVariants as outcomes
-use Rattle.mdc_types.specs.declared.resources.Res.{Res}
 use Rattle.md_superblock.specs.Arrays.{Says, says_in}
 use Rattle.mirror_io.specs.Flight.{write_in, read_in, done_in, start_in}
 use Rattle.msg_rounds.specs.Phases.{has_published}
@@ -21,15 +20,15 @@ use Rattle.cluster_model.specs.Changes.{headed, voided}
 use Rattle.cluster_model.specs.Granting.{asker}
 use Rattle.cluster_model.specs.After.{with_value, with_page, done, after, after_loss, after_miss}
 use Rattle.cluster_model.specs.Failures.{tried, slot_failed, leg_lost, request_failed}
-use Rattle.cluster_model.specs.Writes.{out_done, write_sector}
+use Rattle.cluster_model.specs.Writes.{write_sector}
 use Rattle.cluster_model.specs.Reads.{in_done, end_read, read_sector}
 use Rattle.cluster_model.specs.Gathering.{gather, page_gathered, due_page}
-use Rattle.cluster_model.specs.Copying.{copied_in, filled_with, next_sector, copied_out, with_pass, buffer_sector, buffer_of, settle, settle_buffer}
-use Rattle.cluster_model.specs.Recovering.{slot_read, page_found, slot_cleared, page_cleared, recovered, slot_recovered}
+use Rattle.cluster_model.specs.Copying.{copied_in, filled_with, next_sector, with_pass, buffer_sector, buffer_of, settle_buffer}
+use Rattle.cluster_model.specs.Recovering.{slot_read, page_found, page_cleared, slot_recovered}
 use Rattle.cluster_model.specs.Table.{refusal}
 use Rattle.cluster_model.specs.Transfers.{Transfer, transfer_of}
-use Rattle.laws_roles.proofs.Parts.{Part, Ghost, part_of, ghost_after, finished_by}
-use Rattle.laws_roles.proofs.Ways.{Way, Ways, none, one, more, voids, loses}
+use Rattle.laws_roles.proofs.Parts.{Ghost, part_of, ghost_after}
+use Rattle.laws_roles.proofs.Ways.{Ways, none, one, more, voids, loses}
 use Rattle.laws_roles.proofs.Known.{Known}
 use Rattle.laws_roles.proofs.Rows.{grant_way, token_way, message_asked_way, join_way, load_way, up_way, leave_way, die_way, quit_by}
 use Rattle.laws_roles.proofs.OfferRows.{offer_way}

@@ -1,6 +1,6 @@
 -- The part of the state that says who may be read: the phases, the views and the offers of the
 -- nodes, and what the superblocks say. Beside it what was agreed on last, and two ghosts.
-use Rattle.std.specs.Prelude.{ℕ, Bool, true, false, not, ◌&&◌, ◌||◌, ◌==◌, if◌then◌else◌, Option, Some, None, option_map, is_some, List, [], ◌∷◌, unwrap_or, nat_le}
+use Rattle.std.specs.Prelude.{ℕ, Bool, false, not, ◌&&◌, ◌||◌, ◌==◌, if◌then◌else◌, Option, Some, None, option_map, List, [], ◌∷◌, unwrap_or}
 use Rattle.dlm_modes.specs.First.{first_such}
 use Rattle.mdc_types.specs.Roles.{role_of, is_working}
 use Rattle.mdc_types.specs.declared.events.Event.{Event}
@@ -25,7 +25,7 @@ use Rattle.cluster_model.specs.Receiving.{told_state}
 use Rattle.cluster_model.specs.Stored.{super_on}
 use Rattle.cluster_model.specs.Superblocks.{says_of_offer}
 use Rattle.laws_locks.specs.Following.{core_after}
-use Rattle.laws_roles.specs.Agreed.{Agreed, agreed_on, agreed_in}
+use Rattle.laws_roles.specs.Agreed.{Agreed}
 
 -- What stands in options, with a value where there is none.
 

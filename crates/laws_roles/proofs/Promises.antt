@@ -1,9 +1,8 @@
 -- What follows at each place: who may be read.
-use Rattle.std.proofs.Common.{◌≡◌, ◌⊎◌, inl, inr, ℕ, ◌<◌, ◌≤◌, ◌==◌, ◌&&◌, ◌||◌, not, Bool, true, false, if◌then◌else◌, List, [], ◌∷◌, ◌++◌, Option, Some, None, refl, sym, ap, subst, ◌∙◌, arith}
+use Rattle.std.proofs.Common.{◌≡◌, ◌⊎◌, inl, inr, ℕ, ◌<◌, ◌≤◌, ◌&&◌, ◌||◌, not, Bool, true, false, if◌then◌else◌, List, [], ◌∷◌, Option, Some, None, refl, sym, ap, subst, ◌∙◌, arith}
 use Rattle.std.specs.Prelude.{is_some}
-use Rattle.std.proofs.lemmas.Bool.Decides.{nat_tests}
 use Rattle.dlm_modes.proofs.FirstLaws.{first_such_none}
-use Rattle.mdc_types.specs.Roles.{role_of, is_working, is_written, some_works}
+use Rattle.mdc_types.specs.Roles.{is_working, is_written}
 use Rattle.mdc_types.specs.declared.events.Event.{Event}
 use Rattle.mdc_types.specs.declared.events.Event.TheVariants as events
 use Rattle.mdc_types.specs.declared.outcomes.Entry.{Entry}
@@ -13,24 +12,23 @@ use Rattle.mdc_types.specs.declared.roles.NodeState.{NodeState}
 use Rattle.mdc_types.specs.declared.roles.NodeState.TheVariants as states
 use Rattle.md_superblock.specs.Arrays.{Array, Says}
 use Rattle.leg_failure.specs.Sets.{is_same}
-use Rattle.leg_failure.specs.Views.{NodeView, works, is_target, is_unacked, unacked_leg}
-use Rattle.cluster_model.specs.State.{State, Core, Offer, sizes}
+use Rattle.leg_failure.specs.Views.{works, is_target, is_unacked}
+use Rattle.cluster_model.specs.State.{State, Core, Offer}
 use Rattle.cluster_model.specs.Phases.{is_in, is_up, is_metadata}
 use Rattle.cluster_model.specs.Opening.{Origin, array_of}
 use Rattle.cluster_model.specs.Contents.{Opens}
-use Rattle.cluster_model.specs.Recovered.{Place}
 use Rattle.cluster_model.specs.Run.{Run}
 use Rattle.cluster_model.specs.Served.{Served, Current, CalledIn, Trusted, Shut}
 use Rattle.cluster_model.specs.Size.{Size, WasSure}
 use Rattle.cluster_model.specs.Stored.{super_on}
+use Rattle.laws_sound.proofs.Runs.{runs_keep_a_leg}
 use Rattle.laws_sound.proofs.Supers.{says_fit}
 use Rattle.laws_locks.specs.Following.{core_after}
 use Rattle.laws_roles.specs.Agreed.{Agreed, agreed_on, agreed_after, agreed_in}
-use Rattle.laws_roles.specs.Laws.{Tells, RunsAreShut, Superblocks, RunsHaveSuperblocks, RunsKeepTheSize, SuperblocksKeepALeg, RolesHold, RunsHaveRoles}
-use Rattle.laws_roles.proofs.Parts.{Part, Ghost, part_of, supers, number, said_role, said_size, is_late, ghost_after, ghost_in, finished_by, with_finish, with_wish, with_promoted}
+use Rattle.laws_roles.specs.Laws.{Tells, RunsAreShut, Superblocks, RunsHaveSuperblocks, RunsKeepTheSize, RunsLeaveALeg, CalledBy, RolesHold, RunsHaveRoles}
+use Rattle.laws_roles.proofs.Parts.{Part, Ghost, supers, number, said_role, said_size, is_late, ghost_after, ghost_in, finished_by, with_finish, with_promoted}
 use Rattle.laws_roles.proofs.Numbers.{Numbers}
 use Rattle.laws_roles.proofs.Roles.{Roles}
-use Rattle.laws_roles.proofs.Sizes.{SizesHold}
 use Rattle.laws_roles.proofs.Opening.{says_leg}
 use Rattle.laws_roles.proofs.Runs.{Holds, At, home, holds, grows, array_is}
 use Rattle.laws_roles.proofs.Known.{known}
@@ -116,9 +114,6 @@ module _ (o : Origin) (start end : State) (past : List Entry) (opens : Opens o s
   h : Holds o.sizes.legs (At o start opens tells past end)
   h = holds o start opens tells past end run
 
-  W : Part
-  W = At o start opens tells past end
-
   array : end.core.array ≡ array_of o
   array = array_is o start end past opens run
 
@@ -151,9 +146,13 @@ module _ (o : Origin) (start end : State) (past : List Entry) (opens : Opens o s
   role_here : (n l : ℕ) → end.core.state n ≡ states.Up → is_unacked (end.core.view n) l ≡ false → (end.core.view n).role l ≡ (agreed_in o past).role l
   role_here n l up known = (legwise (At o start opens tells past end) h.numbers h.roles n l up known).1 ∙ agreed_role l
 
+  called_good : (l : ℕ) → CalledBy end l ⊎ CalledIn end Working l → (ghost_in o (home o start opens tells) past).good l ≡ true
+  called_good l (inl c) = h.roles.view_good c.node l c.inside (ap is_working c.role)
+  called_good l (inr c) = called_here l c
+
   pub roles_here : RolesHold (agreed_in o past) end
   roles_here = record {
-    trusted = λ l t. ap is_written (sym (agreed_role l)) ∙ h.roles.good_written l (trusted_here l t);
+    called = λ l c. ap is_written (sym (agreed_role l)) ∙ h.roles.good_written l (called_good l c);
     written = λ n l up t. good_target (At o start opens tells past end) h.numbers h.roles n l up (trusted_here l t);
     roles = role_here;
     all_roles = λ n l up acknowledged lt.
@@ -224,5 +223,11 @@ runs_have_superblocks o start end past opens tells run = superblocks_here o star
 pub runs_keep_the_size : RunsKeepTheSize
 runs_keep_the_size o start end past opens tells run = size_here o start end past opens tells run
 
-pub superblocks_keep_a_leg : SuperblocksKeepALeg
-superblocks_keep_a_leg state k says is = (says_fit state.core.array k (state.legs.content k 8).bytes says is).working
+pub runs_leave_a_leg : RunsLeaveALeg
+runs_leave_a_leg o start end past opens run =
+    let left = runs_keep_a_leg o start end past opens run in
+    record {
+      views = left.leg;
+      offers = left.offered;
+      supers = λ k says is. (says_fit end.core.array k (end.legs.content k 8).bytes says is).working;
+    }

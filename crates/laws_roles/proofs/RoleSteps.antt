@@ -1,5 +1,5 @@
 -- Each way keeps what is known of the roles in views, superblocks and offers.
-use Rattle.std.proofs.Common.{◌≡◌, ℕ, ◌≤◌, ◌==◌, ◌&&◌, ◌||◌, Bool, true, false, if◌then◌else◌, arith}
+use Rattle.std.proofs.Common.{arith}
 use Rattle.std.proofs.lemmas.Bool.Decides.{nat_tests}
 use Rattle.laws_roles.proofs.Parts.{Part}
 use Rattle.laws_roles.proofs.Ways.{Way, joins, comes, goes, dies, offers, offers_other, voids, writes, leaves, loses, finishes, idles, hears, resumes}

@@ -1,5 +1,5 @@
 -- The ways of a round: it is published, taken, processed, resumed, dropped and finished.
-use Rattle.std.proofs.Common.{◌≡◌, ◌≢◌, ◌⊎◌, inl, inr, ℕ, ◌+◌, ◌<◌, ◌≤◌, ◌==◌, ◌&&◌, ◌||◌, Bool, true, false, not, if◌then◌else◌, List, [], ◌∷◌, Option, Some, None, refl, sym, ap, subst, ◌∙◌, arith}
+use Rattle.std.proofs.Common.{◌≡◌, ◌≢◌, inl, inr, ℕ, ◌≤◌, ◌==◌, ◌&&◌, Bool, true, false, not, if◌then◌else◌, List, ◌∷◌, Option, Some, None, refl, sym, ap, subst, ◌∙◌, arith}
 use Rattle.std.specs.Prelude.{is_some}
 use Rattle.std.proofs.lemmas.Bool.{cases_lt}
 use Rattle.std.proofs.lemmas.Bool.Decides.{nat_tests}
@@ -7,7 +7,7 @@ use Rattle.dlm_modes.specs.First.{first_such}
 use Rattle.dlm_modes.proofs.FirstLaws.{first_such_none, first_such_some}
 use Rattle.dlm_modes.specs.Guards.{first_of, unless}
 use Rattle.dlm_modes.specs.Points.{with_at}
-use Rattle.mdc_types.specs.Roles.{role_of, eight, is_working, is_written, some_works}
+use Rattle.mdc_types.specs.Roles.{role_of, is_working, is_written}
 use Rattle.mdc_types.specs.declared.events.Wish.{Wish}
 use Rattle.mdc_types.specs.declared.events.Wish.TheVariants as wishes
 use Rattle.mdc_types.specs.declared.refusals.Refusal.{Refusal}
@@ -32,19 +32,18 @@ use Rattle.msg_rounds.specs.declared.phases.ReceiverPhase.TheVariants as receive
 use Rattle.leg_failure.specs.Views.{acknowledged}
 use Rattle.cluster_model.specs.State.{Core, Offer, sizes}
 use Rattle.cluster_model.specs.Guards.{is_out, no_node, not_fenced, of_live}
-use Rattle.cluster_model.specs.Phases.{is_in, is_up, is_joining, is_metadata, offers, sender_is, receiver_is}
-use Rattle.cluster_model.specs.Publishing.{publish_guards, offer_is_due, wish_is_due, unwritten_leg, publish, publish_offer, publish_wish, block_of, body_of, message_of}
+use Rattle.cluster_model.specs.Phases.{is_in, is_joining, is_metadata, sender_is, receiver_is}
+use Rattle.cluster_model.specs.Publishing.{publish_guards, offer_is_due, wish_is_due, unwritten_leg, publish, publish_offer, publish_wish, block_of, message_of}
 use Rattle.cluster_model.specs.Changes.{sender_now, device_unlocked}
 use Rattle.cluster_model.specs.Finishing.{finish_guards, finish, finish_offer, finish_wish, round_over}
-use Rattle.cluster_model.specs.Receiving.{take_guards, take, called_by, published_message, resume_guards, resume, view_resumed, receiver_idle, receiver_now, told_state, is_state_body, drop_guards, drop_message}
-use Rattle.cluster_model.specs.Processing.{processed_guards, processed, do_message, do_body, draining_by, see_device}
+use Rattle.cluster_model.specs.Receiving.{take_guards, take, called_by, published_message, resume_guards, resume, receiver_idle, receiver_now, told_state, is_state_body, drop_guards, drop_message}
+use Rattle.cluster_model.specs.Processing.{processed_guards, processed, do_message, do_body, draining_by}
 use Rattle.laws_locks.specs.Rounded.{has_token, stands}
 use Rattle.laws_sound.proofs.Guarded.{all_none, first_none, unless_none, refused_none}
-use Rattle.laws_sound.proofs.RoundFacts.{Standing, standing, no_offer, offered_stands, granted_stands, published_stands, is_taken_now}
-use Rattle.laws_sound.specs.Legs.{OfferFits}
+use Rattle.laws_sound.proofs.RoundFacts.{Standing, standing, no_offer, offered_stands, published_stands, is_taken_now}
 use Rattle.msg_rounds.specs.Locks as round_locks
-use Rattle.laws_roles.proofs.Parts.{Part, Ghost, part_of, is_late, waits, changes_super, offered_role, offered_size, is_written_to, heard_role, heard_size, body_role, body_size, first_working, with_finish, finished_by}
-use Rattle.laws_roles.proofs.Ways.{Way, Ways, none, one, more, publishes, takes, hears, passes, resumes, rests, finishes, idles, goes, Hearing, Hearers, Whole, AreEight}
+use Rattle.laws_roles.proofs.Parts.{Part, Ghost, part_of, waits, changes_super, offered_role, offered_size, is_written_to, heard_role, heard_size, body_role, body_size, first_working, with_finish, finished_by}
+use Rattle.laws_roles.proofs.Ways.{Way, Ways, one, more, publishes, takes, hears, passes, resumes, rests, finishes, idles, goes, Hearing, Hearers, Whole, AreEight}
 use Rattle.laws_roles.proofs.Known.{Known, state_body, state_role, state_size, are_eight}
 use Rattle.laws_roles.proofs.Rows.{with_twice}
 

@@ -1,7 +1,7 @@
 -- The ways of the events that grant, and by which nodes come, go and die.
-use Rattle.std.proofs.Common.{◌≡◌, ◌⊎◌, inl, inr, ℕ, ◌<◌, ◌≤◌, ◌==◌, ◌&&◌, Bool, true, false, not, if◌then◌else◌, List, [], ◌∷◌, Option, Some, None, refl, sym, ap, subst, ◌∙◌, arith}
+use Rattle.std.proofs.Common.{◌≡◌, inl, inr, ℕ, ◌==◌, ◌&&◌, Bool, true, false, not, if◌then◌else◌, List, [], ◌∷◌, Option, Some, None, refl, sym, ap, subst, ◌∙◌, arith}
 use Rattle.std.proofs.Math.Path.{fun_ext}
-use Rattle.std.specs.Prelude.{is_some, nat_le}
+use Rattle.std.specs.Prelude.{is_some}
 use Rattle.std.proofs.lemmas.Bool.{leb-true}
 use Rattle.std.proofs.lemmas.Bool.Decides.{nat_tests}
 use Rattle.dlm_modes.specs.First.{first_such}
@@ -17,7 +17,7 @@ use Rattle.mdc_types.specs.declared.resources.Res.{Res}
 use Rattle.mdc_types.specs.declared.resources.Res.TheVariants as resources
 use Rattle.mdc_types.specs.declared.roles.NodeState.{NodeState}
 use Rattle.mdc_types.specs.declared.roles.NodeState.TheVariants as states
-use Rattle.dlm_space.specs.Locks.{Lock, granted}
+use Rattle.dlm_space.specs.Locks.{granted}
 use Rattle.dlm_space.specs.Queues.{asks_of}
 use Rattle.dlm_space.specs.declared.ask.Ask.{Ask}
 use Rattle.md_superblock.specs.Arrays.{Says, says_in}
@@ -37,7 +37,7 @@ use Rattle.cluster_model.specs.After.{with_super, tried_as}
 use Rattle.laws_locks.specs.Rounded.{has_token}
 use Rattle.laws_rounds.proofs.Follows.{with_same}
 use Rattle.laws_sound.proofs.Guarded.{all_none, unless_none}
-use Rattle.laws_sound.proofs.RoundFacts.{head_asks, Asks}
+use Rattle.laws_sound.proofs.RoundFacts.{head_asks}
 use Rattle.laws_sound.proofs.Views.{newest_found}
 use Rattle.laws_roles.proofs.Parts.{Part, Ghost, part_of}
 use Rattle.laws_roles.proofs.Ways.{Way, Ways, none, one, speaks, readies, joins, loads, comes, goes, dies, idles}

@@ -1,26 +1,25 @@
 -- What holds of the part along each run.
-use Rattle.std.proofs.Common.{◌≡◌, ◌⊎◌, inl, inr, ℕ, ◌<◌, ◌≤◌, ◌==◌, ◌&&◌, Bool, true, false, if◌then◌else◌, List, [], ◌∷◌, ◌++◌, Option, Some, None, refl, sym, ap, subst, ◌∙◌, arith}
+use Rattle.std.proofs.Common.{◌≡◌, ℕ, ◌<◌, ◌≤◌, true, List, [], ◌∷◌, ◌++◌, refl, sym, ap, subst, ◌∙◌, arith}
 use Rattle.std.specs.Prelude.{is_some}
 use Rattle.std.proofs.lemmas.Bool.Decides.{nat_tests}
 use Rattle.mdc_types.specs.declared.events.Event.{Event}
 use Rattle.mdc_types.specs.declared.outcomes.Outcome.{Outcome}
 use Rattle.mdc_types.specs.declared.outcomes.Outcome.TheVariants as outcomes
 use Rattle.mdc_types.specs.declared.outcomes.Entry.{Entry}
-use Rattle.md_superblock.specs.Arrays.{Array, Says}
+use Rattle.md_superblock.specs.Arrays.{Array}
 use Rattle.cluster_model.specs.State.{State, Core, Legs}
 use Rattle.cluster_model.specs.After.{after}
-use Rattle.cluster_model.specs.Opening.{Origin, array_of, core_at}
+use Rattle.cluster_model.specs.Opening.{Origin, array_of}
 use Rattle.cluster_model.specs.Contents.{Opens}
 use Rattle.cluster_model.specs.Run.{Run, Step, Moves, Quiet, Written, Read, Failed, Left}
-use Rattle.laws_locks.specs.Following.{core_after}
 use Rattle.laws_locks.specs.Rounded.{Rounded}
 use Rattle.laws_locks.proofs.Runs.{run_is}
-use Rattle.laws_sound.proofs.Change.{Change, Changes, still, more}
+use Rattle.laws_sound.proofs.Change.{Changes, still, more}
 use Rattle.laws_sound.proofs.LegSteps.{same_array}
 use Rattle.laws_sound.proofs.AfterChange.{LosesNoLast, after_change}
 use Rattle.laws_sound.proofs.Failing.{not_last}
 use Rattle.laws_roles.specs.Laws.{Tells}
-use Rattle.laws_roles.proofs.Parts.{Part, Ghost, part_of, supers, ghost_after, ghost_at, ghost_in}
+use Rattle.laws_roles.proofs.Parts.{Part, part_of, supers, ghost_after, ghost_at, ghost_in}
 use Rattle.laws_roles.proofs.Ways as ways
 use Rattle.laws_roles.proofs.Ways.{Way, Ways, writes, leaves}
 use Rattle.laws_roles.proofs.Numbers.{Numbers}
@@ -32,7 +31,7 @@ use Rattle.laws_roles.proofs.SizeSteps.{sizes_step, never_shrinks}
 use Rattle.laws_roles.proofs.Known.{Known, known}
 use Rattle.laws_roles.proofs.Standing.{Bytes}
 use Rattle.laws_roles.proofs.SuperRows.{move_way}
-use Rattle.laws_roles.proofs.Opening.{Begins, opening_begins, first_numbers, first_roles, first_sizes}
+use Rattle.laws_roles.proofs.Opening.{opening_begins, first_numbers, first_roles, first_sizes}
 
 -- The array stays, and whether legs tell.
 

@@ -1,5 +1,5 @@
 -- Each way keeps what is known of sizes, and what was agreed on never shrinks.
-use Rattle.std.proofs.Common.{◌≡◌, ℕ, ◌≤◌, ◌==◌, ◌&&◌, ◌||◌, Bool, true, false, if◌then◌else◌, arith}
+use Rattle.std.proofs.Common.{◌≤◌, arith}
 use Rattle.std.proofs.lemmas.Bool.Decides.{nat_tests}
 use Rattle.laws_roles.proofs.Parts.{Part}
 use Rattle.laws_roles.proofs.Ways.{Way, speaks, voids, readies, joins, comes, goes, dies, offers, offers_other, publishes, writes, leaves, loses, finishes, idles, takes, hears, passes, resumes, rests}

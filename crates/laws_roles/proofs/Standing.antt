@@ -1,5 +1,5 @@
 -- What an event does to the superblocks that stand on the legs.
-use Rattle.std.proofs.Common.{◌≡◌, ◌⊎◌, inl, inr, ℕ, ◌+◌, ◌*◌, ◌<◌, ◌≤◌, ◌==◌, ◌&&◌, Bool, true, false, if◌then◌else◌, length, List, Option, Some, None, refl, sym, ap, subst, ◌∙◌, arith}
+use Rattle.std.proofs.Common.{◌≡◌, ℕ, ◌+◌, ◌*◌, ◌≤◌, ◌==◌, ◌&&◌, Bool, true, false, if◌then◌else◌, Option, Some, None, refl, sym, ap, subst, ◌∙◌, arith}
 use Rattle.std.proofs.Math.Path.{fun_ext}
 use Rattle.std.specs.Prelude.{option_map}
 use Rattle.std.proofs.lemmas.Bool.Decides.{nat_tests}
@@ -10,7 +10,7 @@ use Rattle.mdc_types.specs.declared.events.Event.{Event}
 use Rattle.mdc_types.specs.declared.events.Event.TheVariants as events
 use Rattle.mdc_types.specs.declared.outcomes.Outcome.{Outcome}
 use Rattle.mdc_types.specs.declared.outcomes.Outcome.TheVariants as outcomes
-use Rattle.md_superblock.specs.Arrays.{Array, Says, super_for, spelled, says_in, AreBytes, HasArrays}
+use Rattle.md_superblock.specs.Arrays.{Array, Says, super_for, spelled, says_in, AreBytes}
 use Rattle.md_superblock.specs.Superblock.{IsSuper}
 use Rattle.md_superblock.proofs.ArrayLaws.{says_again}
 use Rattle.dlm_space.specs.declared.ask.Ask.{Ask}
@@ -28,8 +28,7 @@ use Rattle.cluster_model.specs.Phases.{is_metadata}
 use Rattle.cluster_model.specs.Reads.{read_leg}
 use Rattle.cluster_model.specs.Gathering.{due_page}
 use Rattle.cluster_model.specs.Copying.{next_sector, buffer_of, settled_with}
-use Rattle.cluster_model.specs.Outcomes.{outcome_of, outcome_read, load_outcome, granted_to}
-use Rattle.cluster_model.specs.Failures.{failure}
+use Rattle.cluster_model.specs.Outcomes.{outcome_of, load_outcome, granted_to}
 use Rattle.cluster_model.specs.Run.{Moves, Quiet, Written, Read, Failed, Left, Gives, put}
 use Rattle.laws_roles.proofs.Parts.{supers}
 use Rattle.laws_roles.proofs.OtherRows.{is_super, is_failed, LoadsIt}

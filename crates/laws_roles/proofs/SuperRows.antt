@@ -1,8 +1,7 @@
 -- The ways of a superblock that is written, and of each step.
-use Rattle.std.proofs.Common.{◌≡◌, ◌≢◌, ◌⊎◌, inl, inr, ℕ, ◌<◌, ◌≤◌, ◌==◌, ◌&&◌, Bool, true, false, if◌then◌else◌, Option, Some, None, refl, sym, ap, subst, ◌∙◌, arith}
+use Rattle.std.proofs.Common.{◌≡◌, ◌⊎◌, inl, inr, ℕ, ◌<◌, ◌&&◌, Bool, true, false, if◌then◌else◌, Some, None, refl, sym, ap, subst, ◌∙◌}
 use Rattle.std.specs.Prelude.{nat_lt, option_map}
 use Rattle.std.proofs.lemmas.Bool.{ltb-true}
-use Rattle.std.proofs.lemmas.Bool.Decides.{nat_tests}
 use Rattle.dlm_modes.specs.Guards.{first_of}
 use Rattle.dlm_modes.specs.Points.{with_at}
 use Rattle.mdc_types.specs.declared.numbers.Sector.{Sector}
@@ -13,29 +12,27 @@ use Rattle.mdc_types.specs.declared.outcomes.Outcome.TheVariants as outcomes
 use Rattle.mdc_types.specs.declared.refusals.Refusal.TheVariants.{NoLeg}
 use Rattle.mdc_types.specs.declared.roles.NodeState.{NodeState}
 use Rattle.mdc_types.specs.declared.roles.NodeState.TheVariants as states
-use Rattle.md_superblock.specs.Arrays.{Array, Says}
 use Rattle.msg_rounds.specs.Refusals.{is_offered}
 use Rattle.msg_rounds.specs.declared.phases.SenderPhase.{SenderPhase}
 use Rattle.msg_rounds.specs.declared.phases.SenderPhase.TheVariants as senders
 use Rattle.leg_failure.specs.Views.{is_target, is_last}
-use Rattle.cluster_model.specs.State.{State, Core, Legs, Offer, sizes}
-use Rattle.cluster_model.specs.Guards.{no_leg}
+use Rattle.cluster_model.specs.State.{State, Legs, Offer, sizes}
 use Rattle.cluster_model.specs.Phases.{is_in, is_joining, is_metadata, offers}
 use Rattle.cluster_model.specs.Joining.{load_guards}
 use Rattle.cluster_model.specs.Superblocks.{sb_guards, says_of_offer, super_sector, written_on}
 use Rattle.cluster_model.specs.Table.{refusal}
 use Rattle.cluster_model.specs.Transfers.{Transfer, transfer_of, super_transfer, writes_to}
-use Rattle.cluster_model.specs.Failures.{failure, lost_or_io}
+use Rattle.cluster_model.specs.Failures.{failure}
 use Rattle.cluster_model.specs.After.{after}
-use Rattle.cluster_model.specs.Run.{Step, Moves, Quiet, Written, Read, Failed, Left, put}
-use Rattle.laws_locks.specs.Rounded.{has_token, stands}
+use Rattle.cluster_model.specs.Run.{Moves, Quiet, Written, Read, Failed, Left, put}
+use Rattle.laws_locks.specs.Rounded.{has_token}
 use Rattle.laws_sound.proofs.Guarded.{all_none, unless_none}
-use Rattle.laws_sound.proofs.RoundFacts.{Standing, standing, offered_stands}
+use Rattle.laws_sound.proofs.RoundFacts.{standing, offered_stands}
 use Rattle.laws_roles.proofs.Parts.{Part, Ghost, part_of, supers, ghost_after}
 use Rattle.laws_roles.proofs.Ways.{Way, Ways, none, one, more, writes, leaves, Writing}
 use Rattle.laws_roles.proofs.Known.{Known, are_eight}
 use Rattle.laws_roles.proofs.RoundRows.{others_none}
-use Rattle.laws_roles.proofs.OtherRows.{is_super, is_failed, void_way, lose_way, fail_way, event_way}
+use Rattle.laws_roles.proofs.OtherRows.{is_super, is_failed, fail_way, event_way}
 use Rattle.laws_roles.proofs.Standing.{Bytes, super_stands, supers_stay, has_transfer, loads_it}
 
 -- What the moves are of an event that writes.

@@ -1,20 +1,20 @@
 -- The ways in which an accepted event changes the part, each with what its guards and the rounds
 -- tell.
-use Rattle.std.specs.Prelude.{◌≡◌, ◌≢◌, ◌⊎◌, ℕ, ◌+◌, ◌<◌, ◌≤◌, ◌==◌, Bool, true, false, not, ◌&&◌, ◌||◌, if◌then◌else◌, Option, Some, None, is_some}
+use Rattle.std.specs.Prelude.{◌≡◌, ◌≢◌, ◌⊎◌, ℕ, ◌+◌, ◌≤◌, ◌==◌, Bool, true, false, ◌&&◌, ◌||◌, if◌then◌else◌, Option, Some, None, is_some}
 use Rattle.dlm_modes.specs.Points.{with_at}
-use Rattle.mdc_types.specs.Roles.{role_of, eight, is_working, is_rebuilding, is_faulty, is_written}
+use Rattle.mdc_types.specs.Roles.{role_of, eight, is_working, is_faulty, is_written}
 use Rattle.mdc_types.specs.declared.roles.Role.{Role}
 use Rattle.mdc_types.specs.declared.roles.Roles.{Roles}
 use Rattle.mdc_types.specs.declared.roles.NodeState.TheVariants as states
 use Rattle.cluster_msgs.specs.declared.msg.Msg.{Msg}
 use Rattle.md_superblock.specs.Arrays.{Says}
-use Rattle.msg_rounds.specs.Phases.{Receiving, is_idle, has_processed, has_published, has_message, now_in, taken, new_receiving, heard_death}
+use Rattle.msg_rounds.specs.Phases.{Receiving, is_idle, has_processed, has_published, now_in, taken, new_receiving, heard_death}
 use Rattle.msg_rounds.specs.declared.phases.SenderPhase.{SenderPhase}
 use Rattle.msg_rounds.specs.declared.phases.SenderPhase.TheVariants as senders
 use Rattle.msg_rounds.specs.declared.phases.ReceiverPhase.{ReceiverPhase}
 use Rattle.msg_rounds.specs.declared.phases.ReceiverPhase.TheVariants as receivers
-use Rattle.leg_failure.specs.Views.{NodeView, new_view, lost_one, acknowledged, finished, taken as view_taken}
-use Rattle.cluster_model.specs.State.{Offer, Tried, Untried, Loaded}
+use Rattle.leg_failure.specs.Views.{new_view, lost_one, acknowledged, finished, taken as view_taken}
+use Rattle.cluster_model.specs.State.{Offer, Tried, Untried}
 use Rattle.cluster_model.specs.Phases.{is_in, is_up, is_joining, is_metadata}
 use Rattle.cluster_model.specs.Changes.{no_view}
 use Rattle.cluster_model.specs.Joining.{says_of}

@@ -1,12 +1,13 @@
 -- Who may be read, along each run over legs that tell their contents.
-use Rattle.std.specs.Prelude.{◌≡◌, ◌⊎◌, ℕ, ◌<◌, ◌≤◌, true, false, is_some, List, Some, None}
-use Rattle.mdc_types.specs.Roles.{role_of, is_working, is_written, some_works}
+use Rattle.std.specs.Prelude.{◌≡◌, ◌⊎◌, ℕ, ◌<◌, true, false, is_some, List, Some, None}
+use Rattle.mdc_types.specs.Roles.{role_of, is_written, some_works}
 use Rattle.mdc_types.specs.declared.outcomes.Entry.{Entry}
 use Rattle.mdc_types.specs.declared.roles.NodeState.TheVariants.{Up}
 use Rattle.mdc_types.specs.declared.roles.Role.TheVariants.{Working}
 use Rattle.md_superblock.specs.Arrays.{Says, AreBytes}
-use Rattle.leg_failure.specs.Views.{is_target, is_unacked, unacked_leg}
-use Rattle.cluster_model.specs.State.{State, Core, sizes}
+use Rattle.leg_failure.specs.Views.{is_target, is_unacked, unacked_leg, working_leg}
+use Rattle.cluster_model.specs.State.{State, Offer, sizes}
+use Rattle.cluster_model.specs.Phases.{is_in}
 use Rattle.cluster_model.specs.Contents.{Opens, AllTell}
 use Rattle.cluster_model.specs.Opening.{Origin}
 use Rattle.cluster_model.specs.Run.{Run}
@@ -47,19 +48,36 @@ RunsHaveSuperblocks = Always (λ o start past end. Superblocks end)
 abbrev pub RunsKeepTheSize : Type 0
 RunsKeepTheSize = Always (λ o start past end. Size start past end)
 
--- each superblock calls some leg working
-abbrev pub SuperblocksKeepALeg : Type 0
-SuperblocksKeepALeg = (state : State) (k : ℕ) (says : Says)
-    → super_on state.core.array state.legs k ≡ Some says → some_works (role_of says.roles) ≡ true
+-- A leg is left to read from: to each node that is in, by the roles of each offer, and by those of
+-- each superblock of the array.
+pub record LegIsLeft (state : State) : Type 0 where
+  pub views : (n : ℕ) → is_in (state.core.state n) ≡ true
+      → is_some (working_leg (state.core.view n)) ≡ true
+  pub offers : (n : ℕ) (o : Offer) → state.core.offer n ≡ Some o → some_works o.role ≡ true
+  pub supers : (k : ℕ) (says : Says) → super_on state.core.array state.legs k ≡ Some says
+      → some_works (role_of says.roles) ≡ true
+
+-- whether legs tell their contents or not
+abbrev pub RunsLeaveALeg : Type 0
+RunsLeaveALeg = (o : Origin) (start end : State) (past : List Entry)
+    → Opens o start → Run start past end → LegIsLeft end
+
+-- a node that is in calls the leg working, lost or not
+pub record CalledBy (state : State) (l : ℕ) : Type 0 where
+  pub node : ℕ
+  pub inside : is_in (state.core.state node) ≡ true
+  pub role : (state.core.view node).role l ≡ Working
 
 -- what the nodes make of the roles that were agreed on last
 pub record RolesHold (agreed : Agreed) (state : State) : Type 0 where
-  -- a leg that may be read is one that these roles want written
-  pub trusted : (l : ℕ) → Trusted state l → is_written (agreed.role l) ≡ true
-  -- and a target of each up node, or unacked there
+  -- a leg that a node or a current superblock calls working is one that these roles want written
+  pub called : (l : ℕ) → CalledBy state l ⊎ CalledIn state Working l
+      → is_written (agreed.role l) ≡ true
+  -- a leg that may be read is a target of each up node, or unacked there
   pub written : (n l : ℕ) → state.core.state n ≡ Up → Trusted state l
       → (is_target (state.core.view n) l ≡ true) ⊎ (is_unacked (state.core.view n) l ≡ true)
-  -- an up node has these roles where nothing is unacked
+  -- an up node gives a leg that isn't unacked there the role that these give it, and has these roles
+  -- where nothing is unacked
   pub roles : (n l : ℕ) → state.core.state n ≡ Up → is_unacked (state.core.view n) l ≡ false
       → (state.core.view n).role l ≡ agreed.role l
   pub all_roles : (n l : ℕ) → state.core.state n ≡ Up → unacked_leg (state.core.view n) ≡ None

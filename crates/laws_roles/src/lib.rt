@@ -4,7 +4,7 @@
 #![tactic(auto)]
 
 ghost use Rattle.laws_roles.specs.Laws.{RunsAreShut, RunsHaveRoles, RunsHaveSuperblocks};
-ghost use Rattle.laws_roles.specs.Laws.{RunsKeepTheSize, SuperblocksKeepALeg};
+ghost use Rattle.laws_roles.specs.Laws.{RunsKeepTheSize, RunsLeaveALeg};
 
 /// At each place of each run, also in the midst of a round and after a broken one: a leg that an up
 /// node doesn't write, and whose loss is acknowledged there, is read by nobody.
@@ -12,10 +12,10 @@ pub fn runs_are_shut()
     ensures { RunsAreShut }
 {}
 
-/// At each place of each run, of the roles of the last whole round of the superblock: they want each
-/// leg written that is read, or that a current superblock calls working; so it is a target of each
-/// up node, or unacked there. An up node gives a leg that isn't unacked there the role that these
-/// give it, and has these roles where nothing is unacked.
+/// At each place of each run, of the roles of the last whole round of the superblock: each leg that a
+/// node which is in, or a current superblock, calls working is one that they want written. A leg that
+/// may be read is a target of each up node, or unacked there. An up node gives a leg that isn't
+/// unacked there the role that they give it, and has these roles where nothing is unacked.
 pub fn runs_have_roles()
     ensures { RunsHaveRoles }
 {}
@@ -33,8 +33,9 @@ pub fn runs_keep_the_size()
     ensures { RunsKeepTheSize }
 {}
 
-/// Whatever a leg holds: a superblock of the array that stands there calls some leg working. Views
-/// and offers do so too (`runs_keep_a_leg` of `laws_sound`).
-pub fn superblocks_keep_a_leg()
-    ensures { SuperblocksKeepALeg }
+/// At each place of each run, whether legs tell their contents or not, a leg is left to read from: to
+/// each node that is in, by the roles of each offer, and by those of each superblock that stands on a
+/// leg.
+pub fn runs_leave_a_leg()
+    ensures { RunsLeaveALeg }
 {}
