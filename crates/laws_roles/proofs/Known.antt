@@ -30,7 +30,9 @@ use Rattle.cluster_model.specs.Publishing.{body_of}
 use Rattle.cluster_model.specs.Receiving.{is_state_body}
 use Rattle.cluster_model.specs.Run.{Run}
 use Rattle.laws_locks.specs.Following.{rounds_at, core_after, AreAccepted, rounds_in}
+use Rattle.laws_locks.specs.Empties.{UpOnly}
 use Rattle.laws_locks.specs.Rounded.{Rounded}
+use Rattle.laws_locks.proofs.OtherRuns.{only_up}
 use Rattle.laws_locks.proofs.Keeping.{Kept, inv_at}
 use Rattle.laws_locks.proofs.Runs.{run_kept, run_is}
 use Rattle.laws_locks.proofs.Facts.{rounded}
@@ -75,6 +77,7 @@ pub record Known (core : Core) : Type 0 where
   pub leg : KeepsALeg core
   pub read : MessagesRead core
   pub written : OffersWritten core
+  pub empty : UpOnly core
 
 -- Askers.
 
@@ -176,6 +179,7 @@ known_at o start end past opens run accepted leads =
       leg = runs_keep_a_leg o start end past opens run;
       read = messages_are_read o start end past opens run;
       written = offers_are_written o start end past opens run;
+      empty = only_up o start end past opens.origin opens.core run;
     }
 
 pub known : (o : Origin) (start end : State) (past : List Entry) → Opens o start → Run start past end → Known end.core

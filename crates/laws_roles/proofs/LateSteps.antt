@@ -9,10 +9,10 @@ use Rattle.laws_roles.proofs.RoleSteps.{good_written, super_good, super_faulty, 
 
 pub took_roles : (w v : Part) → Way w v → Numbers w → Roles w → TookRoles v
 took_roles w v (readies n did) e r m l = grind (arith, nat_tests, r.took_roles m l)
-took_roles w v (comes n k says lost joining idle read new) e r m l = grind (arith, nat_tests, r.took_roles m l)
+took_roles w v (comes n k says lost joining idle read new quiet empty) e r m l = grind (arith, nat_tests, r.took_roles m l)
 took_roles w v (goes n silent idle) e r m l = grind (arith, nat_tests, r.took_roles m l)
 took_roles w v (dies n) e r m l = grind (arith, nat_tests, r.took_roles m l)
-took_roles w v (loses n k) e r m l = grind (arith, nat_tests, r.took_roles m l)
+took_roles w v (loses n k down) e r m l = grind (arith, nat_tests, r.took_roles m l)
 took_roles w v (finishes n o c) e r m l = grind (arith, nat_tests, r.took_roles m l, c.idle)
 took_roles w v (takes n from x idle) e r m l = grind (arith, nat_tests, r.took_roles m l)
 took_roles w v (hears n roles size h) e r m l = grind (arith, nat_tests, r.took_roles m l, h.says_role l)
@@ -22,17 +22,17 @@ took_roles w v (rests n late) e r m l = grind (arith, nat_tests, r.took_roles m 
 took_roles w v x e r m l = r.took_roles m l
 
 pub late_roles : (w v : Part) → Way w v → Numbers w → Roles w → LateRoles v
-late_roles w v (speaks n s said holds) e r m l = grind (arith, nat_tests, r.late_roles m l)
+late_roles w v (speaks n s said holds other) e r m l = grind (arith, nat_tests, r.late_roles m l)
 late_roles w v (voids n silent) e r m l = grind (arith, nat_tests, r.late_roles m l)
 late_roles w v (readies n did) e r m l = grind (arith, nat_tests, r.late_roles m l)
 late_roles w v (joins n out silent) e r m l = grind (arith, nat_tests, r.late_roles m l)
-late_roles w v (comes n k says lost joining idle read new) e r m l = grind (arith, nat_tests, r.late_roles m l)
+late_roles w v (comes n k says lost joining idle read new quiet empty) e r m l = grind (arith, nat_tests, r.late_roles m l)
 late_roles w v (goes n silent idle) e r m l = grind (arith, nat_tests, r.late_roles m l)
 late_roles w v (dies n) e r m l = grind (arith, nat_tests, r.late_roles m l)
-late_roles w v (offers n o p) e r m l = grind (arith, nat_tests, r.late_roles m l, p.silent)
-late_roles w v (offers_other n o other silent) e r m l = grind (arith, nat_tests, r.late_roles m l)
+late_roles w v (offers n o p a) e r m l = grind (arith, nat_tests, r.late_roles m l, p.silent)
+late_roles w v (offers_other n o other silent a) e r m l = grind (arith, nat_tests, r.late_roles m l)
 late_roles w v (publishes n calm due) e r m l = grind (arith, nat_tests, calm m)
-late_roles w v (loses n k) e r m l = grind (arith, nat_tests, r.late_roles m l)
+late_roles w v (loses n k down) e r m l = grind (arith, nat_tests, r.late_roles m l)
 late_roles w v (finishes n o c) e r m l = grind (arith, nat_tests, c.hearers.told m, c.hearers.role m l, r.took_roles m l, c.offer, c.meta, c.idle)
 late_roles w v (idles n inside told) e r m l = grind (arith, nat_tests, r.late_roles m l, told m)
 late_roles w v (takes n from x idle) e r m l = grind (arith, nat_tests, r.late_roles m l)
@@ -43,17 +43,17 @@ late_roles w v (rests n late) e r m l = grind (arith, nat_tests, r.late_roles m 
 late_roles w v x e r m l = r.late_roles m l
 
 pub sure_roles : (w v : Part) → Way w v → Numbers w → Roles w → SureRoles v
-sure_roles w v (speaks n s said holds) e r m l = grind (arith, nat_tests, r.sure_roles m l)
+sure_roles w v (speaks n s said holds other) e r m l = grind (arith, nat_tests, r.sure_roles m l)
 sure_roles w v (voids n silent) e r m l = grind (arith, nat_tests, r.sure_roles m l)
 sure_roles w v (readies n did) e r m l = grind (arith, nat_tests, r.sure_roles m l)
 sure_roles w v (joins n out silent) e r m l = grind (arith, nat_tests, r.sure_roles m l)
-sure_roles w v (comes n k says lost joining idle read new) e r m l = grind (arith, nat_tests, r.sure_roles m l)
+sure_roles w v (comes n k says lost joining idle read new quiet empty) e r m l = grind (arith, nat_tests, r.sure_roles m l)
 sure_roles w v (goes n silent idle) e r m l = grind (arith, nat_tests, r.sure_roles m l)
 sure_roles w v (dies n) e r m l = grind (arith, nat_tests, r.sure_roles m l)
-sure_roles w v (offers n o p) e r m l = grind (arith, nat_tests, r.sure_roles m l, p.silent)
-sure_roles w v (offers_other n o other silent) e r m l = grind (arith, nat_tests, r.sure_roles m l)
+sure_roles w v (offers n o p a) e r m l = grind (arith, nat_tests, r.sure_roles m l, p.silent)
+sure_roles w v (offers_other n o other silent a) e r m l = grind (arith, nat_tests, r.sure_roles m l)
 sure_roles w v (publishes n calm due) e r m l = grind (arith, nat_tests, r.sure_roles m l, calm m)
-sure_roles w v (loses n k) e r m l = grind (arith, nat_tests, r.sure_roles m l)
+sure_roles w v (loses n k down) e r m l = grind (arith, nat_tests, r.sure_roles m l)
 sure_roles w v (finishes n o c) e r m l = grind (arith, nat_tests, c.processed m, c.hearers.told m, c.hearers.gone m, c.hearers.from m, c.offer, c.meta)
 sure_roles w v (idles n inside told) e r m l = grind (arith, nat_tests, r.sure_roles m l, told m)
 sure_roles w v (takes n from x idle) e r m l = grind (arith, nat_tests, r.sure_roles m l)

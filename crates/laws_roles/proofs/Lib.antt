@@ -9,6 +9,7 @@ pub mod LateSteps
 pub mod SizeSteps
 pub mod Known
 pub mod Rows
+pub mod WishGuards
 pub mod OfferRows
 pub mod RoundRows
 pub mod OtherRows

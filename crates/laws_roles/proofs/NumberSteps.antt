@@ -10,7 +10,7 @@ some_completed w v (finishes n o c) e = grind (arith, e.offer_drawn n, e.offer_n
 some_completed w v x e = e.some_completed
 
 pub super_drawn : (w v : Part) → Way w v → Numbers w → SuperDrawn v
-super_drawn w v (offers n o p) e k = grind (arith, e.super_drawn k)
+super_drawn w v (offers n o p a) e k = grind (arith, e.super_drawn k)
 super_drawn w v (writes n j o i) e k = grind (arith, nat_tests, e.super_drawn k, e.offer_drawn n, i.offer, i.meta)
 super_drawn w v (leaves n j o i) e k = grind (arith, nat_tests, e.super_drawn k, e.offer_drawn n, i.offer, i.meta)
 super_drawn w v x e k = e.super_drawn k
@@ -20,8 +20,8 @@ offer_drawn w v (goes n silent idle) e m = grind (arith, nat_tests, e.offer_draw
 offer_drawn w v (dies n) e m = grind (arith, nat_tests, e.offer_drawn m)
 offer_drawn w v (voids n silent) e m = grind (arith, nat_tests, e.offer_drawn m)
 offer_drawn w v (idles n inside told) e m = grind (arith, nat_tests, e.offer_drawn m)
-offer_drawn w v (offers n o p) e m = grind (arith, nat_tests, p.none m, p.events)
-offer_drawn w v (offers_other n o other silent) e m = grind (arith, nat_tests, e.offer_drawn m)
+offer_drawn w v (offers n o p a) e m = grind (arith, nat_tests, p.none m, p.events)
+offer_drawn w v (offers_other n o other silent a) e m = grind (arith, nat_tests, e.offer_drawn m)
 offer_drawn w v (writes n j o i) e m = grind (arith, nat_tests, e.offer_drawn m, i.offer)
 offer_drawn w v (finishes n o c) e m = grind (arith, nat_tests, c.others m)
 offer_drawn w v x e m = e.offer_drawn m
@@ -31,8 +31,8 @@ offer_new w v (goes n silent idle) e m = grind (arith, nat_tests, e.offer_new m)
 offer_new w v (dies n) e m = grind (arith, nat_tests, e.offer_new m)
 offer_new w v (voids n silent) e m = grind (arith, nat_tests, e.offer_new m)
 offer_new w v (idles n inside told) e m = grind (arith, nat_tests, e.offer_new m)
-offer_new w v (offers n o p) e m = grind (arith, nat_tests, p.none m, e.home_current, e.super_drawn w.ghost.home)
-offer_new w v (offers_other n o other silent) e m = grind (arith, nat_tests, e.offer_new m)
+offer_new w v (offers n o p a) e m = grind (arith, nat_tests, p.none m, e.home_current, e.super_drawn w.ghost.home)
+offer_new w v (offers_other n o other silent a) e m = grind (arith, nat_tests, e.offer_new m)
 offer_new w v (writes n j o i) e m = grind (arith, nat_tests, e.offer_new m, i.offer)
 offer_new w v (finishes n o c) e m = grind (arith, nat_tests, c.others m)
 offer_new w v x e m = e.offer_new m
@@ -42,8 +42,8 @@ offer_says w v (goes n silent idle) e m k = grind (arith, nat_tests, e.offer_say
 offer_says w v (dies n) e m k = grind (arith, nat_tests, e.offer_says m k)
 offer_says w v (voids n silent) e m k = grind (arith, nat_tests, e.offer_says m k)
 offer_says w v (idles n inside told) e m k = grind (arith, nat_tests, e.offer_says m k)
-offer_says w v (offers n o p) e m k = grind (arith, nat_tests, p.none m, p.events, e.super_drawn k)
-offer_says w v (offers_other n o other silent) e m k = grind (arith, nat_tests, e.offer_says m k)
+offer_says w v (offers n o p a) e m k = grind (arith, nat_tests, p.none m, p.events, e.super_drawn k)
+offer_says w v (offers_other n o other silent a) e m k = grind (arith, nat_tests, e.offer_says m k)
 offer_says w v (writes n j o i) e m k = grind (arith, nat_tests, e.offer_says m k, i.offer, i.others m)
 offer_says w v (leaves n j o i) e m k = grind (arith, nat_tests, e.offer_says m k, i.offer, i.others m)
 offer_says w v (finishes n o c) e m k = grind (arith, nat_tests, c.others m)
@@ -54,22 +54,22 @@ offer_written w v (goes n silent idle) e m k = grind (arith, nat_tests, e.offer_
 offer_written w v (dies n) e m k = grind (arith, nat_tests, e.offer_written m k)
 offer_written w v (voids n silent) e m k = grind (arith, nat_tests, e.offer_written m k)
 offer_written w v (idles n inside told) e m k = grind (arith, nat_tests, e.offer_written m k)
-offer_written w v (offers n o p) e m k = grind (arith, nat_tests, p.none m, p.fresh k)
-offer_written w v (offers_other n o other silent) e m k = grind (arith, nat_tests, e.offer_written m k)
+offer_written w v (offers n o p a) e m k = grind (arith, nat_tests, p.none m, p.fresh k)
+offer_written w v (offers_other n o other silent a) e m k = grind (arith, nat_tests, e.offer_written m k)
 offer_written w v (writes n j o i) e m k = grind (arith, nat_tests, e.offer_written m k, i.offer, i.others m)
 offer_written w v (leaves n j o i) e m k = grind (arith, nat_tests, e.offer_written m k, i.offer, i.others m)
 offer_written w v (finishes n o c) e m k = grind (arith, nat_tests, c.others m)
 offer_written w v x e m k = e.offer_written m k
 
 pub all_written : (w v : Part) → Way w v → Numbers w → AllWritten v
-all_written w v (speaks n s said holds) e m l = grind (arith, nat_tests, e.all_written m l)
+all_written w v (speaks n s said holds other) e m l = grind (arith, nat_tests, e.all_written m l)
 all_written w v (joins n out silent) e m l = grind (arith, nat_tests, e.all_written m l)
 all_written w v (goes n silent idle) e m l = grind (arith, nat_tests, e.all_written m l)
 all_written w v (dies n) e m l = grind (arith, nat_tests, e.all_written m l)
 all_written w v (voids n silent) e m l = grind (arith, nat_tests, e.all_written m l)
 all_written w v (idles n inside told) e m l = grind (arith, nat_tests, e.all_written m l)
-all_written w v (offers n o p) e m l = grind (arith, nat_tests, p.none m)
-all_written w v (offers_other n o other silent) e m l = grind (arith, nat_tests, e.all_written m l)
+all_written w v (offers n o p a) e m l = grind (arith, nat_tests, p.none m)
+all_written w v (offers_other n o other silent a) e m l = grind (arith, nat_tests, e.all_written m l)
 all_written w v (publishes n calm due) e m l = grind (arith, nat_tests, e.all_written m l, due)
 all_written w v (writes n j o i) e m l = grind (arith, nat_tests, e.all_written m l, i.offer, i.others m)
 all_written w v (finishes n o c) e m l = grind (arith, nat_tests, c.others m)
@@ -82,7 +82,7 @@ same_says w v x e j k = e.same_says j k
 
 pub loading : (w v : Part) → Way w v → Numbers w → Loading v
 loading w v (loads n l t joining holds same) e m k = grind (arith, nat_tests, e.loading m k, same)
-loading w v (comes n l says lost joining idle read new) e m k = grind (arith, nat_tests, e.loading m k)
+loading w v (comes n l says lost joining idle read new quiet empty) e m k = grind (arith, nat_tests, e.loading m k)
 loading w v (goes n silent idle) e m k = grind (arith, nat_tests, e.loading m k)
 loading w v (dies n) e m k = grind (arith, nat_tests, e.loading m k)
 loading w v (writes n l o i) e m k = grind (arith, nat_tests, e.loading m k, e.loader_joins m k, e.loader_holds m k, i.alone m)
@@ -92,23 +92,23 @@ loading w v x e m k = e.loading m k
 pub loader_joins : (w v : Part) → Way w v → Numbers w → LoaderJoins v
 loader_joins w v (joins n out silent) e m k = grind (arith, nat_tests, e.loader_joins m k)
 loader_joins w v (loads n l t joining holds same) e m k = grind (arith, nat_tests, e.loader_joins m k)
-loader_joins w v (comes n l says lost joining idle read new) e m k = grind (arith, nat_tests, e.loader_joins m k)
+loader_joins w v (comes n l says lost joining idle read new quiet empty) e m k = grind (arith, nat_tests, e.loader_joins m k)
 loader_joins w v (goes n silent idle) e m k = grind (arith, nat_tests, e.loader_joins m k)
 loader_joins w v (dies n) e m k = grind (arith, nat_tests, e.loader_joins m k)
 loader_joins w v (finishes n o c) e m k = grind (arith, nat_tests, e.loader_joins m k, c.inside)
 loader_joins w v x e m k = e.loader_joins m k
 
 pub loader_holds : (w v : Part) → Way w v → Numbers w → LoaderHolds v
-loader_holds w v (speaks n s said holds) e m k = grind (arith, nat_tests, e.loader_holds m k)
+loader_holds w v (speaks n s said holds other) e m k = grind (arith, nat_tests, e.loader_holds m k)
 loader_holds w v (joins n out silent) e m k = grind (arith, nat_tests, e.loader_holds m k, e.loader_joins m k)
 loader_holds w v (loads n l t joining holds same) e m k = grind (arith, nat_tests, e.loader_holds m k)
-loader_holds w v (comes n l says lost joining idle read new) e m k = grind (arith, nat_tests, e.loader_holds m k)
+loader_holds w v (comes n l says lost joining idle read new quiet empty) e m k = grind (arith, nat_tests, e.loader_holds m k)
 loader_holds w v (goes n silent idle) e m k = grind (arith, nat_tests, e.loader_holds m k)
 loader_holds w v (dies n) e m k = grind (arith, nat_tests, e.loader_holds m k)
 loader_holds w v (voids n silent) e m k = grind (arith, nat_tests, e.loader_holds m k)
 loader_holds w v (idles n inside told) e m k = grind (arith, nat_tests, e.loader_holds m k, e.loader_joins m k)
-loader_holds w v (offers n o p) e m k = grind (arith, nat_tests, e.loader_holds m k)
-loader_holds w v (offers_other n o other silent) e m k = grind (arith, nat_tests, e.loader_holds m k)
+loader_holds w v (offers n o p a) e m k = grind (arith, nat_tests, e.loader_holds m k)
+loader_holds w v (offers_other n o other silent a) e m k = grind (arith, nat_tests, e.loader_holds m k)
 loader_holds w v (publishes n calm due) e m k = grind (arith, nat_tests, e.loader_holds m k)
 loader_holds w v (finishes n o c) e m k = grind (arith, nat_tests, e.loader_holds m k, e.loader_joins m k, c.inside)
 loader_holds w v x e m k = e.loader_holds m k
@@ -121,7 +121,7 @@ home_current w v x e = e.home_current
 
 pub written_current : (w v : Part) → Way w v → Numbers w → WrittenCurrent v
 written_current w v (joins n out silent) e m k = grind (arith, nat_tests, e.written_current m k)
-written_current w v (comes n l says lost joining idle read new) e m k = grind (arith, nat_tests, e.written_current m k)
+written_current w v (comes n l says lost joining idle read new quiet empty) e m k = grind (arith, nat_tests, e.written_current m k)
 written_current w v (goes n silent idle) e m k = grind (arith, nat_tests, e.written_current m k)
 written_current w v (dies n) e m k = grind (arith, nat_tests, e.written_current m k)
 written_current w v (writes n l o i) e m k = grind (arith, nat_tests, e.written_current m k, e.offer_drawn n, e.offer_new n, i.offer, i.meta)

@@ -1,5 +1,7 @@
 -- The way of each accepted event that writes no superblock.
-use Rattle.std.proofs.Common.{◌≡◌, ℕ, Bool, true, false, Option, Some, None, refl, sym, ap, subst, ◌∙◌}
+use Rattle.std.proofs.lemmas.Bool.Decides.{nat_tests}
+use Rattle.std.specs.Prelude.{option_map}
+use Rattle.std.proofs.Common.{◌==◌, ◌||◌, arith, ◌≡◌, ℕ, Bool, true, false, Option, Some, None, refl, sym, ap, subst, ◌∙◌}
 use Rattle.dlm_modes.specs.Points.{with_at}
 use Rattle.mdc_types.specs.declared.numbers.Sector.{Sector}
 use Rattle.mdc_types.specs.declared.events.Event.{Event}
@@ -11,12 +13,21 @@ use Rattle.mirror_io.specs.Flight.{write_in, read_in, done_in, start_in}
 use Rattle.msg_rounds.specs.Phases.{has_published}
 use Rattle.msg_rounds.specs.declared.phases.SenderPhase.{SenderPhase}
 use Rattle.msg_rounds.specs.declared.phases.SenderPhase.TheVariants as senders
-use Rattle.leg_failure.specs.Views.{lost_one}
+use Rattle.leg_failure.specs.Views.{lost_one, unacked_leg}
 use Rattle.node_recovery.specs.Progress.{Recovering}
-use Rattle.resync_worker.specs.Copying.{copied}
+use Rattle.resync_worker.specs.Copying.{Passing, filled, copied, settled_at}
 use Rattle.resync_worker.specs.declared.buffer.Buffer.{Buffer}
-use Rattle.cluster_model.specs.State.{Core}
-use Rattle.cluster_model.specs.Changes.{headed, voided}
+use Rattle.cluster_model.specs.State.{Core, Asked, sizes}
+use Rattle.laws_sound.proofs.Guarded.{all_none, unless_none, refused_none}
+use Rattle.mdc_types.specs.Geometry.{Sizes}
+use Rattle.mdc_types.specs.Roles.{is_rebuilding}
+use Rattle.mdc_types.specs.declared.refusals.Refusal.TheVariants.{Unacked}
+use Rattle.msg_rounds.specs.Refusals.{is_offered}
+use Rattle.dlm_modes.specs.Guards.{first_of}
+use Rattle.cluster_model.specs.Gathering.{is_again_of}
+use Rattle.cluster_model.specs.Passes.{pass_guards, pass_full, pass_again_guards, pass_again}
+use Rattle.cluster_model.specs.Phases.{is_up}
+use Rattle.cluster_model.specs.Changes.{no_copy, headed, voided}
 use Rattle.cluster_model.specs.Granting.{asker}
 use Rattle.cluster_model.specs.After.{with_value, with_page, done, after, after_loss, after_miss}
 use Rattle.cluster_model.specs.Failures.{tried, slot_failed, leg_lost, request_failed}
@@ -27,8 +38,9 @@ use Rattle.cluster_model.specs.Copying.{copied_in, filled_with, next_sector, wit
 use Rattle.cluster_model.specs.Recovering.{slot_read, page_found, page_cleared, slot_recovered}
 use Rattle.cluster_model.specs.Table.{refusal}
 use Rattle.cluster_model.specs.Transfers.{Transfer, transfer_of}
-use Rattle.laws_roles.proofs.Parts.{Ghost, part_of, ghost_after}
-use Rattle.laws_roles.proofs.Ways.{Ways, none, one, more, voids, loses}
+use Rattle.laws_roles.proofs.Parts.{covered_by, Ghost, part_of, ghost_after}
+use Rattle.laws_roles.proofs.WishGuards.{all_known}
+use Rattle.laws_roles.proofs.Ways.{copies, gathers, passes_over, Ways, none, one, more, voids, loses}
 use Rattle.laws_roles.proofs.Known.{Known}
 use Rattle.laws_roles.proofs.Rows.{grant_way, token_way, message_asked_way, join_way, load_way, up_way, leave_way, die_way, quit_by}
 use Rattle.laws_roles.proofs.OfferRows.{offer_way}
@@ -49,6 +61,47 @@ abbrev pub LoadsIt : Core → (ℕ → Option Says) → Event → Outcome → Ty
 LoadsIt core sup (events.Load n l) o = (number : ℕ) (v : Sector) → o ≡ outcomes.Super number v → sup l ≡ says_in core.array l v.bytes
 LoadsIt core sup e o = Unit {0}
 
+-- Passes.
+
+fill_covers : (p : Option Passing) (s : ℕ) (v : Sector) (l j : ℕ) → covered_by (option_map (λ x. filled x s v l) p) j ≡ true → covered_by p j ≡ true
+fill_covers None s v l j e = e
+fill_covers (Some p) s v l j e = e
+
+copy_covers : (p : Option Passing) (l j : ℕ) → covered_by (option_map (λ x. copied x l) p) j ≡ true → covered_by p j ≡ true
+copy_covers None l j e = e
+copy_covers (Some p) l j e = e
+
+settle_covers : (z : Sizes) (p : Option Passing) (b : Buffer) (j : ℕ) → covered_by (option_map (λ x. settled_at z x b) p) j ≡ true → covered_by p j ≡ true
+settle_covers z None b j e = e
+settle_covers z (Some p) b j e = e
+
+voided_not : (core : Core) (n : ℕ) → is_offered (with_at core.sender n senders.MessageHeld n) ≡ false
+voided_not core n = let e : (n == n) ≡ true = grind (arith, nat_tests) in rw e refl
+
+or_left : (a b : Bool) → a ≡ true → (a || b) ≡ true
+or_left a b e = grind arith
+
+or_right : (a b : Bool) → b ≡ true → (a || b) ≡ true
+or_right a b e = grind arith
+
+same_as : (f : ℕ → Bool) (l j : ℕ) → (j == l) ≡ true → f l ≡ true → f j ≡ true
+same_as f l j e w = let same : l ≡ j = grind (arith, nat_tests) in subst (λ x. f x ≡ true) same w
+
+full_way : (core : Core) → Known core → (sup : ℕ → Option Says) (g : Ghost) (n : ℕ) → first_of (pass_guards core n) ≡ None → Ways (part_of core sup g) (part_of (pass_full core n) sup g)
+full_way core k sup g n ok =
+    let a = (all_none (pass_guards core n) ok).1.1.1 in
+    let up = unless_none (is_up (core.state n)) _ a.0 in
+    let known = all_known core k n (refused_none Unacked (unacked_leg (core.view n)) a.1.1.0) in
+    one (passes_over n _ up (λ l e. known l) (λ l e. or_left (is_rebuilding ((core.view n).role l)) (is_again_of (core.adding n).addition l) e))
+
+again_way : (core : Core) → Known core → (sup : ℕ → Option Says) (g : Ghost) (n l : ℕ) → first_of (pass_again_guards core n l) ≡ None → Ways (part_of core sup g) (part_of (pass_again core n l) sup g)
+again_way core k sup g n l ok =
+    let a = (all_none (pass_again_guards core n l) ok).1.1.1 in
+    let up = unless_none (is_up (core.state n)) _ a.1.0 in
+    let known = all_known core k n (refused_none Unacked (unacked_leg (core.view n)) a.1.1.1.1.0) in
+    let again = unless_none (is_again_of (core.adding n).addition l) _ a.1.1.1.0 in
+    one (passes_over n _ up (λ j e. known j) (λ j e. or_right (is_rebuilding ((core.view n).role j)) (is_again_of (core.adding n).addition j) (same_as (is_again_of (core.adding n).addition) l j e again)))
+
 module _ (sup : ℕ → Option Says) (g : Ghost) where
   -- Of these the part knows nothing.
 
@@ -66,7 +119,7 @@ module _ (sup : ℕ → Option Says) (g : Ghost) where
 
   page_still : (core : Core) (n : ℕ) (x : Option (ℕ × ℕ)) (v : Sector) → Ways (part_of core sup g) (part_of (page_gathered core n x v) sup g)
   page_still core n None v = none
-  page_still core n (Some due) v = none
+  page_still core n (Some due) v = one (gathers n _ refl)
 
   gather_still : (core : Core) (n : ℕ) (o : Outcome) → Ways (part_of core sup g) (part_of (with_page core (gather core n) o) sup g)
   gather_still core n (outcomes.Page v) = page_still core n (due_page core n) v
@@ -74,19 +127,19 @@ module _ (sup : ℕ → Option Says) (g : Ghost) where
 
   fill_still : (core : Core) (n : ℕ) (x : Option ℕ) (l : ℕ) (v : Sector) → Ways (part_of core sup g) (part_of (filled_with core n x l v) sup g)
   fill_still core n None l v = none
-  fill_still core n (Some s) l v = none
+  fill_still core n (Some s) l v = one (copies n _ (λ j e. fill_covers (core.copy n).pass s v l j e))
 
   copy_in_still : (core : Core) (n : ℕ) (o : Outcome) → Ways (part_of core sup g) (part_of (with_value core (copied_in core n) o) sup g)
   copy_in_still core n (outcomes.Value l v) = fill_still core n (next_sector core n) l v
   copy_in_still core n o = none
 
   copy_still : (core : Core) (n l : ℕ) (x : Option ℕ) → Ways (part_of core sup g) (part_of (with_pass (headed core n l x) n (λ p. copied p l)) sup g)
-  copy_still core n l None = none
-  copy_still core n l (Some s) = none
+  copy_still core n l None = one (copies n _ (λ j e. copy_covers (core.copy n).pass l j e))
+  copy_still core n l (Some s) = one (copies n _ (λ j e. copy_covers (core.copy n).pass l j e))
 
   settle_still : (core : Core) (n : ℕ) (x : Option Buffer) → Ways (part_of core sup g) (part_of (settle_buffer core n x) sup g)
   settle_still core n None = none
-  settle_still core n (Some b) = none
+  settle_still core n (Some b) = one (copies n _ (λ j e. settle_covers (sizes core) (core.copy n).pass b j e))
 
   found_still : (core : Core) (n : ℕ) (x : Option Recovering) (p l : ℕ) (v : Sector) → Ways (part_of core sup g) (part_of (page_found core n x p l v) sup g)
   found_still core n None p l v = none
@@ -134,15 +187,15 @@ module _ (sup : ℕ → Option Says) (g : Ghost) where
   done_way core (events.AskRead n x) o k s i ok = none
   done_way core (events.In n j) o k s i ok = in_still core n j o
   done_way core (events.Clear n c) o k s i ok = none
-  done_way core (events.AskResync n) o k s i ok = none
+  done_way core (events.AskResync n) o k s i ok = one (copies n (record (core.copy n) { turn = Asked }) (λ l e. e))
   done_way core (events.Gather n) o k s i ok = gather_still core n o
-  done_way core (events.PassOwn n) o k s i ok = none
-  done_way core (events.PassFull n) o k s i ok = none
-  done_way core (events.PassAgain n l) o k s i ok = none
+  done_way core (events.PassOwn n) o k s i ok = one (copies n _ (λ l e. cc))
+  done_way core (events.PassFull n) o k s i ok = full_way core k sup g n ok
+  done_way core (events.PassAgain n l) o k s i ok = again_way core k sup g n l ok
   done_way core (events.CopyIn n) o k s i ok = copy_in_still core n o
   done_way core (events.CopyOut n l) o k s i ok = copy_still core n l (buffer_sector (buffer_of core n))
   done_way core (events.Settle n) o k s i ok = settle_still core n (buffer_of core n)
-  done_way core (events.EndPass n) o k s i ok = none
+  done_way core (events.EndPass n) o k s i ok = one (copies n no_copy (λ l e. cc))
   done_way core (events.Recover n d) o k s i ok = none
   done_way core (events.SlotIn n p l) o k s i ok = slot_in_still core n p l o
   done_way core (events.SlotOut n p l) o k s i ok = slot_out_still core n (core.recovery n) p l
@@ -169,8 +222,8 @@ module _ (sup : ℕ → Option Says) (g : Ghost) where
   void_way core n s e = none
 
   lose_by : (core : Core) (n l : ℕ) (s : SenderPhase) → core.sender n ≡ s → Ways (part_of core sup g) (part_of (record (voided core n s) { view = with_at core.view n (lost_one (core.view n) l) }) sup g)
-  lose_by core n l senders.Offered e = more (one (voids n (ap has_published e))) (loses n l)
-  lose_by core n l s e = one (loses n l)
+  lose_by core n l senders.Offered e = more (one (voids n (ap has_published e))) (loses n l (voided_not core n))
+  lose_by core n l s e = one (loses n l (ap is_offered e))
 
   pub lose_way : (core : Core) (n l : ℕ) → Ways (part_of core sup g) (part_of (leg_lost core n l) sup g)
   lose_way core n l = lose_by core n l (core.sender n) refl
@@ -179,6 +232,7 @@ module _ (sup : ℕ → Option Says) (g : Ghost) where
   ghost_same : (core : Core) (e : Event) (t : Transfer) → transfer_of core e ≡ Some t → g ≡ ghost_after core e g
   ghost_same core (events.FinishRound n) t is = cc
   ghost_same core (events.Offer n wish) t is = cc
+  ghost_same core (events.Up n) t is = cc
   ghost_same core e t is = refl
 
   fail_by : (core : Core) (e : Event) (t : Transfer) (o : Outcome) → transfer_of core e ≡ Some t → is_failed o ≡ true → Ways (part_of core sup g) (part_of (after core e o) sup g)

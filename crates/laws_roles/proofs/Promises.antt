@@ -13,6 +13,7 @@ use Rattle.mdc_types.specs.declared.roles.NodeState.TheVariants as states
 use Rattle.md_superblock.specs.Arrays.{Array, Says}
 use Rattle.leg_failure.specs.Sets.{is_same}
 use Rattle.leg_failure.specs.Views.{works, is_target, is_unacked}
+use Rattle.disk_addition.specs.declared.addition.Addition.{Addition}
 use Rattle.cluster_model.specs.State.{State, Core, Offer}
 use Rattle.cluster_model.specs.Phases.{is_in, is_up, is_metadata}
 use Rattle.cluster_model.specs.Opening.{Origin, array_of}
@@ -35,16 +36,16 @@ use Rattle.laws_roles.proofs.Known.{known}
 
 -- What was agreed on is a word of its own.
 
-finished_agreed : (g : Ghost) (x : Option Offer) → (finished_by g x).agreed ≡ agreed_on g.agreed x
-finished_agreed g None = refl
-finished_agreed g (Some o) = by (is_metadata o.wish)
+finished_agreed : (g : Ghost) (x : Option Offer) (a : Addition) → (finished_by g x a).agreed ≡ agreed_on g.agreed x
+finished_agreed g None a = refl
+finished_agreed g (Some o) a = by (is_metadata o.wish)
   where
-    by : (b : Bool) → (if b then with_finish g o else g).agreed ≡ (if b then record { role = o.role; size = o.size } else g.agreed)
+    by : (b : Bool) → (if b then with_finish g o a else g).agreed ≡ (if b then record { role = o.role; size = o.size } else g.agreed)
     by true = refl
     by false = refl
 
 after_agreed : (core : Core) (e : Event) (g : Ghost) → (ghost_after core e g).agreed ≡ agreed_after core e g.agreed
-after_agreed core (events.FinishRound n) g = finished_agreed g (core.offer n)
+after_agreed core (events.FinishRound n) g = finished_agreed g (core.offer n) (core.adding n).addition
 after_agreed core (events.Offer n wish) g = by (is_metadata wish)
   where
     by : (b : Bool) → (if b then with_promoted g wish else g).agreed ≡ g.agreed

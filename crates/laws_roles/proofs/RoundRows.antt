@@ -1,6 +1,6 @@
 -- The ways of a round: it is published, taken, processed, resumed, dropped and finished.
 use Rattle.std.proofs.Common.{◌≡◌, ◌≢◌, inl, inr, ℕ, ◌≤◌, ◌==◌, ◌&&◌, Bool, true, false, not, if◌then◌else◌, List, ◌∷◌, Option, Some, None, refl, sym, ap, subst, ◌∙◌, arith}
-use Rattle.std.specs.Prelude.{is_some}
+use Rattle.std.specs.Prelude.{is_some, is_none, option_map}
 use Rattle.std.proofs.lemmas.Bool.{cases_lt}
 use Rattle.std.proofs.lemmas.Bool.Decides.{nat_tests}
 use Rattle.dlm_modes.specs.First.{first_such}
@@ -32,18 +32,20 @@ use Rattle.msg_rounds.specs.declared.phases.ReceiverPhase.TheVariants as receive
 use Rattle.leg_failure.specs.Views.{acknowledged}
 use Rattle.cluster_model.specs.State.{Core, Offer, sizes}
 use Rattle.cluster_model.specs.Guards.{is_out, no_node, not_fenced, of_live}
-use Rattle.cluster_model.specs.Phases.{is_in, is_joining, is_metadata, sender_is, receiver_is}
+use Rattle.cluster_model.specs.Phases.{is_in, is_up, is_joining, is_metadata, sender_is, receiver_is}
 use Rattle.cluster_model.specs.Publishing.{publish_guards, offer_is_due, wish_is_due, unwritten_leg, publish, publish_offer, publish_wish, block_of, message_of}
-use Rattle.cluster_model.specs.Changes.{sender_now, device_unlocked}
-use Rattle.cluster_model.specs.Finishing.{finish_guards, finish, finish_offer, finish_wish, round_over}
+use Rattle.cluster_model.specs.Changes.{sender_now, device_unlocked, window_closed}
+use Rattle.resync_worker.specs.Copying.{Passing, restarted}
+use Rattle.suspend_ranges.specs.Suspended.{entry_of}
+use Rattle.cluster_model.specs.Finishing.{adding_after, finish_guards, finish, finish_offer, finish_wish, round_over}
 use Rattle.cluster_model.specs.Receiving.{take_guards, take, called_by, published_message, resume_guards, resume, receiver_idle, receiver_now, told_state, is_state_body, drop_guards, drop_message}
 use Rattle.cluster_model.specs.Processing.{processed_guards, processed, do_message, do_body, draining_by}
-use Rattle.laws_locks.specs.Rounded.{has_token, stands}
+use Rattle.laws_locks.specs.Rounded.{has_token, stands, wish_fits, offer_fits, offering}
 use Rattle.laws_sound.proofs.Guarded.{all_none, first_none, unless_none, refused_none}
-use Rattle.laws_sound.proofs.RoundFacts.{Standing, standing, no_offer, offered_stands, published_stands, is_taken_now}
+use Rattle.laws_sound.proofs.RoundFacts.{Standing, standing, no_offer, offered_stands, published_stands, is_taken_now, busy_receives, receives_silent}
 use Rattle.msg_rounds.specs.Locks as round_locks
-use Rattle.laws_roles.proofs.Parts.{Part, Ghost, part_of, waits, changes_super, offered_role, offered_size, is_written_to, heard_role, heard_size, body_role, body_size, first_working, with_finish, finished_by}
-use Rattle.laws_roles.proofs.Ways.{Way, Ways, one, more, publishes, takes, hears, passes, resumes, rests, finishes, idles, goes, Hearing, Hearers, Whole, AreEight}
+use Rattle.laws_roles.proofs.Parts.{Part, Ghost, part_of, waits, changes_super, offered_role, offered_size, is_written_to, heard_role, heard_size, body_role, body_size, first_working, with_finish, finished_by, needs_known, covered_by, is_loaded}
+use Rattle.laws_roles.proofs.Ways.{Way, Ways, one, more, publishes, takes, hears, passes, resumes, rests, finishes, idles, announces, copies, goes, Hearing, Hearers, Whole, AreEight}
 use Rattle.laws_roles.proofs.Known.{Known, state_body, state_role, state_size, are_eight}
 use Rattle.laws_roles.proofs.Rows.{with_twice}
 
@@ -97,6 +99,29 @@ not_late r heard s other = grind arith
 taken_not_late : (r : Receiving) (heard : Option Msg) (s : SenderPhase) → r.phase ≡ receivers.Taken → waits r heard s ≡ false
 taken_not_late r heard s e = grind arith
 
+loaded_is : (s : NodeState) → is_loaded s ≡ true → s ≡ states.Loaded
+loaded_is states.Loaded e = refl
+loaded_is s e = cc
+
+abbrev up_offers : NodeState → Wish → Bool
+up_offers s w = wish_fits s w
+
+-- a loaded node's rounds change the superblock
+is_up_by : (s : NodeState) (w : Wish) → is_metadata w ≡ false → needs_known w ≡ true → is_in s ≡ true → up_offers s w ≡ true → is_up s ≡ true
+is_up_by states.Up w other known up fits = refl
+is_up_by states.Loaded wishes.Meta other known up fits = cc
+is_up_by states.Loaded w other known up fits = cc
+is_up_by s w other known up fits = cc
+
+-- who receives is up
+up_when : (s : NodeState) (r : ReceiverPhase) → r ≡ receivers.Taken → (is_up s ≡ false → r ≡ receivers.Idle) → is_up s ≡ true
+up_when states.Up r e f = refl
+up_when s r e f = let both : receivers.Taken ≡ receivers.Idle = sym e ∙ f refl in cc
+
+closed_covers : (p : Option Passing) (l : ℕ) → covered_by (option_map restarted p) l ≡ true → covered_by p l ≡ true
+closed_covers None l e = e
+closed_covers (Some p) l e = e
+
 not_gone : (b : Bool) → not b ≡ true → b ≡ false
 not_gone b e = grind arith
 
@@ -122,7 +147,7 @@ module _ (core : Core) (k : Known core) (sup : ℕ → Option Says) (g : Ghost) 
 
   publish_by : (n : ℕ) (o : Offer) (w : Wish) → Way Here (record Here { sender = with_at core.sender n senders.Published })
       → Ways Here (part_of (publish_wish (record (sender_now core n senders.Published) { locks = device_unlocked (round_locks.published core.locks n (block_of core n o)) n }) n w) sup g)
-  publish_by n o (wishes.Range r) x = one x
+  publish_by n o (wishes.Range r) x = more (one x) (copies n (window_closed (core.copy n)) (λ l e. closed_covers (core.copy n).pass l e))
   publish_by n o w x = one x
 
   pub publish_way : (n : ℕ) → first_of (publish_guards core n) ≡ None → Ways Here (part_of (publish core n) sup g)
@@ -147,6 +172,8 @@ module _ (core : Core) (k : Known core) (sup : ℕ → Option Says) (g : Ghost) 
       let from = (core.receiver n).from in
       let said = k.rounded.phased.calls n (is_taken_now (core.receiver n).phase t) gone in
       let s = its_offer from (published_stands (core.sender from) said) in
+      let phase = is_taken_now (core.receiver n).phase t in
+      let receives = busy_receives (core.sender n) (core.receiver n).phase (ap is_idle phase) (k.rounded.phased.sending n) in
       let both : Some m ≡ Some (message_of core from s.offer) = sym e ∙ k.read.taken n s.offer t gone s.is in
       let same : m ≡ message_of core from s.offer = cc in
       let meta : is_metadata s.offer.wish ≡ true = sym (state_body core s.offer s.offer.wish) ∙ sym (ap (λ (x : Msg). is_state_body x.body) same) ∙ state in
@@ -157,6 +184,8 @@ module _ (core : Core) (k : Known core) (sup : ℕ → Option Says) (g : Ghost) 
         offered = λ l. role_is l ∙ ap (λ (x : Msg). body_role x.body l) same ∙ state_role core s.offer s.offer.wish l meta ∙ eight_of from s.offer s.is l ∙ sym (ap (λ x. offered_role x l) s.is);
         offered_size = size_is ∙ ap (λ (x : Msg). body_size x.body) same ∙ state_size core s.offer s.offer.wish meta ∙ sym (ap offered_size s.is);
         published = said;
+        up = up_when (core.state n) (core.receiver n).phase phase (k.rounded.phased.still n);
+        silent = no_offer (core.state n) (core.sender n) (core.offer n) (k.rounded.offering.offers n) (receives_silent (core.sender n) receives);
       }
 
   body_by : (n : ℕ) (m : Msg) (b : Body) → m.body ≡ b → is_taken (core.receiver n).phase ≡ true → (core.receiver n).gone ≡ false → core.heard n ≡ Some m
@@ -223,6 +252,17 @@ module _ (core : Core) (k : Known core) (sup : ℕ → Option Says) (g : Ghost) 
       by false e = e
       by true e = absurd (ne (k.rounded.phased.alone m n (holds (core.sender m) e) has))
 
+  -- who is loaded has the token
+  pub loaded_alone : (n : ℕ) → has_token (core.sender n) ≡ true → (m : ℕ) → is_loaded (core.state m) ≡ true → m ≡ n
+  loaded_alone n has m e = k.rounded.phased.alone m n (k.rounded.phased.loaded m (loaded_is (core.state m) e)) has
+
+  -- the offer fits its node's state
+  its_fit : (n : ℕ) (o : Offer) (w : Wish) → o.wish ≡ w → core.offer n ≡ Some o → core.sender n ≡ senders.Granted → up_offers (core.state n) w ≡ true
+  its_fit n o w e is s =
+      ap (up_offers (core.state n)) (sym e)
+      ∙ subst (λ x. (if stands x then offer_fits (core.state n) (Some o) else is_none (Some o)) ≡ true) s
+      (subst (λ x. offering (core.state n) (core.sender n) x ≡ true) is (k.rounded.offering.offers n))
+
   granted_is : (s : SenderPhase) → is_granted s ≡ true → s ≡ senders.Granted
   granted_is senders.Granted e = refl
   granted_is s e = cc
@@ -238,20 +278,32 @@ module _ (core : Core) (k : Known core) (sup : ℕ → Option Says) (g : Ghost) 
     eight = eight_of n o is;
     works = works_found o.role (first_such (λ l. is_working (o.role l)) 0 8) refl (k.leg.offered n o is);
     hearers = hearers n o is (ap has_published s);
+    loaded = λ m e. loaded_alone n (ap has_token s) m e;
     processed = λ m ne inside. k.rounded.phased.processed n m s ne inside;
   }
 
   -- a round that doesn't change the superblock
+  idle_told : (n : ℕ) (o : Offer) → core.offer n ≡ Some o → is_metadata o.wish ≡ false → (m : ℕ) → has_published (core.sender n) ≡ true → is_idle (core.receiver m).phase ≡ false → told_state (core.heard m) ≡ false
+  idle_told n o is other m p b = ap told_state (says_there n m o is p b) ∙ state_body core o o.wish ∙ other
+
   idle_way : (n : ℕ) (o : Offer) → core.offer n ≡ Some o → is_metadata o.wish ≡ false → is_in (core.state n) ≡ true
       → Way Here (record Here { sender = with_at core.sender n senders.Idle; offer = with_at core.offer n None })
-  idle_way n o is other up = idles n (not_joining (core.state n) up) (λ m p b. ap told_state (says_there n m o is p b) ∙ state_body core o o.wish ∙ other)
+  idle_way n o is other up = idles n (not_joining (core.state n) up) (idle_told n o is other)
+
+  -- what the finish of a round about a device makes of the addition
+  device_way : (n : ℕ) (o : Offer) (w : Wish) → o.wish ≡ w → needs_known w ≡ true → is_metadata w ≡ false → core.offer n ≡ Some o → is_in (core.state n) ≡ true → up_offers (core.state n) w ≡ true
+      → Ways Here (record Here { sender = with_at core.sender n senders.Idle; offer = with_at core.offer n None; adding = with_at core.adding n (adding_after (core.adding n) w) })
+  device_way n o w e known other is up fits =
+      subst (λ x. Ways Here (record Here { sender = with_at core.sender n senders.Idle; offer = with_at core.offer n None; adding = with_at core.adding n (adding_after (core.adding n) x) })) e
+      (more (one (announces n o is (ap needs_known e ∙ known) (ap is_metadata e ∙ other) (is_up_by (core.state n) w other known up fits)))
+      (idles n (not_joining (core.state n) up) (idle_told n o is (ap is_metadata e ∙ other))))
 
   finish_by : (n : ℕ) (o : Offer) (w : Wish) → o.wish ≡ w → core.offer n ≡ Some o → core.sender n ≡ senders.Granted → is_in (core.state n) ≡ true
-      → Ways Here (part_of (finish_wish (round_over core n) n o w) sup (if is_metadata w then with_finish g o else g))
-  finish_by n o (wishes.Range r) w is s up = one (idle_way n o is (ap is_metadata w) up)
-  finish_by n o (wishes.NewDisk l) w is s up = one (idle_way n o is (ap is_metadata w) up)
-  finish_by n o (wishes.Remove l) w is s up = one (idle_way n o is (ap is_metadata w) up)
-  finish_by n o (wishes.ReAdd l) w is s up = one (idle_way n o is (ap is_metadata w) up)
+      → Ways Here (part_of (finish_wish (round_over core n) n o w) sup (if is_metadata w then with_finish g o (core.adding n).addition else g))
+  finish_by n o (wishes.Range r) w is s up = more (one (idle_way n o is (ap is_metadata w) up)) (copies n (record (core.copy n) { window = entry_of r }) (λ l e. e))
+  finish_by n o (wishes.NewDisk l) w is s up = device_way n o (wishes.NewDisk l) w refl refl is up (its_fit n o (wishes.NewDisk l) w is s)
+  finish_by n o (wishes.Remove l) w is s up = device_way n o (wishes.Remove l) w refl refl is up (its_fit n o (wishes.Remove l) w is s)
+  finish_by n o (wishes.ReAdd l) w is s up = device_way n o (wishes.ReAdd l) w refl refl is up (its_fit n o (wishes.ReAdd l) w is s)
   finish_by n o wishes.Unclean w is s up =
       subst (λ x. Ways Here (record (part_of (finish_wish (round_over core n) n o wishes.Unclean) sup g) { sender = x })) (with_twice core.sender n senders.Idle)
       (more (one (idle_way n o is (ap is_metadata w) up)) (goes n (idle_silent n) (ap is_idle (k.rounded.phased.sending n (ap may_receive s)))))
@@ -260,9 +312,9 @@ module _ (core : Core) (k : Known core) (sup : ℕ → Option Says) (g : Ghost) 
       idle_silent n = let e : (n == n) ≡ true = grind (arith, nat_tests) in rw e refl
   finish_by n o x w is s up = one (finishes n o (whole n o is (ap is_metadata w) s up))
 
-  pub finish_way : (n : ℕ) → first_of (finish_guards core n) ≡ None → Ways Here (part_of (finish core n) sup (finished_by g (core.offer n)))
+  pub finish_way : (n : ℕ) → first_of (finish_guards core n) ≡ None → Ways Here (part_of (finish core n) sup (finished_by g (core.offer n) (core.adding n).addition))
   finish_way n ok =
       let a = (all_none (finish_guards core n) ok).1.1.1 in
       let granted = granted_is (core.sender n) (unless_none (is_granted (core.sender n)) _ a.0) in
       let s = its_offer n (ap stands granted) in
-      subst (λ x. Ways Here (part_of (finish_offer core n x) sup (finished_by g x))) (sym s.is) (finish_by n s.offer s.offer.wish refl s.is granted s.up)
+      subst (λ x. Ways Here (part_of (finish_offer core n x) sup (finished_by g x (core.adding n).addition))) (sym s.is) (finish_by n s.offer s.offer.wish refl s.is granted s.up)

@@ -1,7 +1,7 @@
 -- The ways of the events that grant, and by which nodes come, go and die.
 use Rattle.std.proofs.Common.{◌≡◌, inl, inr, ℕ, ◌==◌, ◌&&◌, Bool, true, false, not, if◌then◌else◌, List, [], ◌∷◌, Option, Some, None, refl, sym, ap, subst, ◌∙◌, arith}
 use Rattle.std.proofs.Math.Path.{fun_ext}
-use Rattle.std.specs.Prelude.{is_some}
+use Rattle.std.specs.Prelude.{is_some, unwrap_or}
 use Rattle.std.proofs.lemmas.Bool.{leb-true}
 use Rattle.std.proofs.lemmas.Bool.Decides.{nat_tests}
 use Rattle.dlm_modes.specs.First.{first_such}
@@ -23,10 +23,10 @@ use Rattle.dlm_space.specs.declared.ask.Ask.{Ask}
 use Rattle.md_superblock.specs.Arrays.{Says, says_in}
 use Rattle.msg_rounds.specs.Locks.{token_res, message_res, ack_res}
 use Rattle.msg_rounds.specs.Phases.{is_idle, has_published, has_processed, may_quit}
-use Rattle.msg_rounds.specs.Refusals.{is_sender_idle, is_token_held}
+use Rattle.msg_rounds.specs.Refusals.{is_sender_idle, is_token_held, is_offered}
 use Rattle.msg_rounds.specs.declared.phases.SenderPhase.{SenderPhase}
 use Rattle.msg_rounds.specs.declared.phases.SenderPhase.TheVariants as senders
-use Rattle.cluster_model.specs.State.{Core, Tried, Unread, Loaded}
+use Rattle.cluster_model.specs.State.{Core, Tried, Unread, Loaded, Held}
 use Rattle.cluster_model.specs.Guards.{is_out}
 use Rattle.cluster_model.specs.Phases.{is_joining, is_up}
 use Rattle.cluster_model.specs.Granting.{asker, message_held, grant_to}
@@ -34,13 +34,14 @@ use Rattle.cluster_model.specs.Joining.{join_guards, join, load_guards, up_guard
 use Rattle.cluster_model.specs.Leaving.{leave_guards, leave, die}
 use Rattle.cluster_model.specs.Rounds.{token_guards, message_guards, ask_token, ask_message, quit_guards, quit, quit_from}
 use Rattle.cluster_model.specs.After.{with_super, tried_as}
-use Rattle.laws_locks.specs.Rounded.{has_token}
+use Rattle.laws_locks.specs.Rounded.{has_token, stands}
+use Rattle.cluster_model.specs.Changes.{covering}
 use Rattle.laws_rounds.proofs.Follows.{with_same}
 use Rattle.laws_sound.proofs.Guarded.{all_none, unless_none}
-use Rattle.laws_sound.proofs.RoundFacts.{head_asks}
+use Rattle.laws_sound.proofs.RoundFacts.{head_asks, no_offer}
 use Rattle.laws_sound.proofs.Views.{newest_found}
-use Rattle.laws_roles.proofs.Parts.{Part, Ghost, part_of}
-use Rattle.laws_roles.proofs.Ways.{Way, Ways, none, one, speaks, readies, joins, loads, comes, goes, dies, idles}
+use Rattle.laws_roles.proofs.Parts.{Part, Ghost, part_of, source_of, with_source}
+use Rattle.laws_roles.proofs.Ways.{Way, Ways, none, one, speaks, readies, joins, loads, comes, goes, dies, idles, copies}
 use Rattle.laws_roles.proofs.Known.{Known}
 
 -- what is changed twice to the same is changed once
@@ -107,8 +108,8 @@ module _ (core : Core) (k : Known core) (sup : ℕ → Option Says) (g : Ghost) 
         | inr r ↦ absurd (none_asks a.node (core.locks ack_res).requests a.mode q.rest k.askers.ack_none r)
       ]
 
-  goes_on : (n : ℕ) (old s : SenderPhase) → core.sender n ≡ old → has_published s ≡ has_published old → has_token s ≡ true → Way Here (record Here { sender = with_at core.sender n s })
-  goes_on n old s is same token = speaks n s (same ∙ sym (ap has_published is)) (λ e. token)
+  goes_on : (n : ℕ) (old s : SenderPhase) → core.sender n ≡ old → has_published s ≡ has_published old → has_token s ≡ true → is_offered s ≡ false → Way Here (record Here { sender = with_at core.sender n s })
+  goes_on n old s is same token other = speaks n s (same ∙ sym (ap has_published is)) (λ e. token) other
 
   message_way : (a : Ask) (m : Mode) → a.mode ≡ m → asker core resources.Message ≡ Some a → Ways Here (part_of (record (message_held core a.node m) { locks = with_at core.locks message_res (granted (core.locks message_res)) }) sup g)
   message_way a PR is e =
@@ -121,15 +122,15 @@ module _ (core : Core) (k : Known core) (sup : ℕ → Option Says) (g : Ghost) 
       let q = head_asks (core.locks message_res).conversions (core.locks message_res).requests a e in
       elim q.either [
         | inl c ↦ let both : m ≡ PR = sym is ∙ (k.askers.converts a.node a.mode q.rest c).1 in cc
-        | inr r ↦ one (goes_on a.node senders.MessageAsked senders.MessageHeld (k.askers.message a.node a.mode q.rest r).0 refl refl)
+        | inr r ↦ one (goes_on a.node senders.MessageAsked senders.MessageHeld (k.askers.message a.node a.mode q.rest r).0 refl refl refl)
       ]
 
   pub grant_way : (res : Res) (x : Option Ask) → asker core res ≡ x → Ways Here (part_of (grant_to core res x) sup g)
   grant_way res None e = none
-  grant_way resources.Token (Some a) e = one (goes_on a.node senders.TokenAsked senders.TokenHeld (token_asker a e) refl refl)
+  grant_way resources.Token (Some a) e = one (goes_on a.node senders.TokenAsked senders.TokenHeld (token_asker a e) refl refl refl)
   grant_way resources.Message (Some a) e = message_way a a.mode refl e
-  grant_way resources.Ack (Some a) e = one (goes_on a.node senders.Published senders.Granted (ack_asker a e) refl refl)
-  grant_way resources.Resync (Some a) e = none
+  grant_way resources.Ack (Some a) e = one (goes_on a.node senders.Published senders.Granted (ack_asker a e) refl refl refl)
+  grant_way resources.Resync (Some a) e = one (copies a.node (record (core.copy a.node) { turn = Held }) (λ l c. c))
   grant_way (resources.Bitmap n) (Some a) e = cc
   grant_way resources.NoNewDev (Some a) e = cc
 
@@ -137,12 +138,12 @@ module _ (core : Core) (k : Known core) (sup : ℕ → Option Says) (g : Ghost) 
   token_way n ok =
       let a = (all_none (token_guards core n) ok).1.1.1 in
       let idle = idle_is (core.sender n) (unless_none _ _ a.1.0) in
-      one (speaks n senders.TokenAsked (sym (ap has_published idle)) (λ e. let no : has_token (core.sender n) ≡ false = ap has_token idle in cc))
+      one (speaks n senders.TokenAsked (sym (ap has_published idle)) (λ e. let no : has_token (core.sender n) ≡ false = ap has_token idle in cc) refl)
 
   pub message_asked_way : (n : ℕ) → first_of (message_guards core n) ≡ None → Ways Here (part_of (ask_message core n) sup g)
   message_asked_way n ok =
       let a = (all_none (message_guards core n) ok).1.1.1 in
-      one (goes_on n senders.TokenHeld senders.MessageAsked (held_is (core.sender n) (unless_none _ _ a.1.0)) refl refl)
+      one (goes_on n senders.TokenHeld senders.MessageAsked (held_is (core.sender n) (unless_none _ _ a.1.0)) refl refl refl)
 
   -- Coming.
 
@@ -176,19 +177,21 @@ module _ (core : Core) (k : Known core) (sup : ℕ → Option Says) (g : Ghost) 
     is : newest tried ≡ Some says
     read : says_of (tried leg) ≡ Some says
     newest : says.events ≡ greatest tried
+    source : source_of tried ≡ leg
 
-  found_at : (tried : ℕ → Tried) (l : ℕ) (t : Tried) → tried l ≡ t → newest tried ≡ says_of (tried l) → is_newest tried l ≡ true → Found tried
-  found_at tried l (Loaded says) e is passes = record {
+  found_at : (tried : ℕ → Tried) (l : ℕ) (t : Tried) → tried l ≡ t → newest tried ≡ says_of (tried l) → is_newest tried l ≡ true → source_of tried ≡ l → Found tried
+  found_at tried l (Loaded says) e is passes source = record {
     leg = l;
     says = says;
     is = is ∙ ap says_of e;
     read = ap says_of e;
     newest = sym (ap events_of e) ∙ number_is (is_some (says_of (tried l))) (events_of (tried l)) (greatest tried) passes;
+    source = source;
   }
     where
       number_is : (b : Bool) (x y : ℕ) → (b && (x == y)) ≡ true → x ≡ y
       number_is b x y e = grind (arith, nat_tests)
-  found_at tried l t e is passes = absurd (none_is (says_of (tried l)) (ap says_of e) passes)
+  found_at tried l t e is passes source = absurd (none_is (says_of (tried l)) (ap says_of e) passes)
     where
       none_is : (x : Option Says) → x ≡ None → (is_some x && (events_of (tried l) == greatest tried)) ≡ true → ⊥
       none_is None e p = cc
@@ -196,17 +199,20 @@ module _ (core : Core) (k : Known core) (sup : ℕ → Option Says) (g : Ghost) 
 
   found : (tried : ℕ → Tried) (x : Option ℕ) → first_such (is_newest tried) 0 8 ≡ x → is_some x ≡ true → Found tried
   found tried None e some = cc
-  found tried (Some l) e some = found_at tried l (tried l) refl (ap (says_at tried) e) (first_such_some (is_newest tried) 0 8 l e).passes
+  found tried (Some l) e some = found_at tried l (tried l) refl (ap (says_at tried) e) (first_such_some (is_newest tried) 0 8 l e).passes (ap (λ x. unwrap_or x 0) e)
 
-  pub up_way : (n : ℕ) → first_of (up_guards core n) ≡ None → Ways Here (part_of (up core n) sup g)
+  pub up_way : (n : ℕ) → first_of (up_guards core n) ≡ None → Ways Here (part_of (up core n) sup (with_source g n (source_of (core.tried n))))
   up_way n ok =
       let a = (all_none (up_guards core n) ok).1.1.1 in
       let joining = joining_is (core.state n) (unless_none (is_joining (core.state n)) _ a.0) in
       let fresh = leb-true _ _ (unless_none _ (Stale (greatest (core.tried n)) core.members.completed) a.1.1.1.0) in
       let least = k.range.legs.events.some_completed.0 in
       let f = found (core.tried n) (first_such (is_newest (core.tried n)) 0 8) refl (newest_found (core.tried n) (omega (arith, least, fresh))) in
-      subst (λ x. Ways Here (part_of (record (up core n) { view = with_at core.view n (view_from (core.tried n) x) }) sup g)) (sym f.is)
-      (one (comes n f.leg f.says _ joining (ap is_idle (k.rounded.phased.still n (ap is_up joining))) f.read (omega (arith, fresh, f.newest))))
+      let held = held_is (core.sender n) (unless_none _ _ a.1.0) in
+      let quiet = no_offer (core.state n) (core.sender n) (core.offer n) (k.rounded.offering.offers n) (ap stands held) in
+      subst (λ j. Ways Here (part_of (up core n) sup (with_source g n j))) (sym f.source)
+      (subst (λ x. Ways Here (part_of (record (up core n) { view = with_at core.view n (view_from (core.tried n) x); copy = with_at core.copy n (covering (core.copy n) (view_from (core.tried n) x)) }) sup (with_source g n f.leg))) (sym f.is)
+      (one (comes n f.leg f.says _ joining (ap is_idle (k.rounded.phased.still n (ap is_up joining))) f.read (omega (arith, fresh, f.newest)) quiet (k.empty.empty n (ap is_up joining)).copy)))
 
   -- Going.
 

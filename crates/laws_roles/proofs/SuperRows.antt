@@ -31,7 +31,7 @@ use Rattle.laws_sound.proofs.RoundFacts.{standing, offered_stands}
 use Rattle.laws_roles.proofs.Parts.{Part, Ghost, part_of, supers, ghost_after}
 use Rattle.laws_roles.proofs.Ways.{Way, Ways, none, one, more, writes, leaves, Writing}
 use Rattle.laws_roles.proofs.Known.{Known, are_eight}
-use Rattle.laws_roles.proofs.RoundRows.{others_none}
+use Rattle.laws_roles.proofs.RoundRows.{others_none, loaded_alone}
 use Rattle.laws_roles.proofs.OtherRows.{is_super, is_failed, fail_way, event_way}
 use Rattle.laws_roles.proofs.Standing.{Bytes, super_stands, supers_stay, has_transfer, loads_it}
 
@@ -108,6 +108,8 @@ module _ (old : State) (k : Known old.core) (bytes : Bytes old.core.array) (g : 
     meta = a.meta;
     others = others_none old.core k (supers old.core.array old.legs) g n (ap has_token a.offered);
     alone = λ m has. let same : m ≡ n = k.rounded.phased.alone m n has (ap has_token a.offered) in subst (λ j. is_joining (old.core.state j) ≡ false) (sym same) (in_not_joining (old.core.state n) a.inside);
+    loaded = loaded_alone old.core k (supers old.core.array old.legs) g n (ap has_token a.offered);
+    serves = λ j e. k.leg.working n j a.offer a.is e;
     eight = are_eight (sizes old.core) a.offer.role k.range.legs.sizes_fit (k.range.legs.offers n a.offer a.is).roles;
   }
 

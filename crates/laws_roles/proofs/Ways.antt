@@ -2,7 +2,7 @@
 -- tell.
 use Rattle.std.specs.Prelude.{◌≡◌, ◌≢◌, ◌⊎◌, ℕ, ◌+◌, ◌≤◌, ◌==◌, Bool, true, false, ◌&&◌, ◌||◌, if◌then◌else◌, Option, Some, None, is_some}
 use Rattle.dlm_modes.specs.Points.{with_at}
-use Rattle.mdc_types.specs.Roles.{role_of, eight, is_working, is_faulty, is_written}
+use Rattle.mdc_types.specs.Roles.{role_of, eight, is_working, is_rebuilding, is_faulty, is_spare, is_written}
 use Rattle.mdc_types.specs.declared.roles.Role.{Role}
 use Rattle.mdc_types.specs.declared.roles.Roles.{Roles}
 use Rattle.mdc_types.specs.declared.roles.NodeState.TheVariants as states
@@ -13,15 +13,20 @@ use Rattle.msg_rounds.specs.declared.phases.SenderPhase.{SenderPhase}
 use Rattle.msg_rounds.specs.declared.phases.SenderPhase.TheVariants as senders
 use Rattle.msg_rounds.specs.declared.phases.ReceiverPhase.{ReceiverPhase}
 use Rattle.msg_rounds.specs.declared.phases.ReceiverPhase.TheVariants as receivers
-use Rattle.leg_failure.specs.Views.{new_view, lost_one, acknowledged, finished, taken as view_taken}
-use Rattle.cluster_model.specs.State.{Offer, Tried, Untried}
+use Rattle.msg_rounds.specs.Refusals.{is_offered}
+use Rattle.disk_addition.specs.Wishes.{is_announced, is_readd}
+use Rattle.disk_addition.specs.declared.addition.Addition.TheVariants.{Nothing}
+use Rattle.leg_failure.specs.Views.{works, is_unacked, new_view, lost_one, acknowledged, finished, taken as view_taken}
+use Rattle.cluster_model.specs.State.{Offer, Tried, Untried, Adding, Copy}
 use Rattle.cluster_model.specs.Phases.{is_in, is_up, is_joining, is_metadata}
-use Rattle.cluster_model.specs.Changes.{no_view}
+use Rattle.cluster_model.specs.Changes.{no_view, no_copy, not_adding, covering}
+use Rattle.cluster_model.specs.Finishing.{adding_after}
+use Rattle.cluster_model.specs.Gathering.{is_again_of}
 use Rattle.cluster_model.specs.Joining.{says_of}
 use Rattle.cluster_model.specs.Receiving.{told_state}
 use Rattle.cluster_model.specs.Superblocks.{says_of_offer, written_on}
 use Rattle.laws_locks.specs.Rounded.{has_token}
-use Rattle.laws_roles.proofs.Parts.{Part, changes_super, offered_role, offered_size, is_written_to, heard_role, heard_size, promotes, first_working, with_finish, with_promoted, is_late}
+use Rattle.laws_roles.proofs.Parts.{Part, changes_super, offered_role, offered_size, is_written_to, heard_role, heard_size, promotes, needs_known, wants_spare, wants_faulty, rebuilds, covers, is_loaded, first_working, with_finish, with_source, with_promoted, is_late}
 
 abbrev pub receiver_now : Part → ℕ → ReceiverPhase → ℕ → Receiving
 receiver_now w n phase = with_at w.receiver n (now_in phase (w.receiver n))
@@ -41,6 +46,19 @@ pub record Hearers (w : Part) (n : ℕ) : Type 0 where
   pub size : (m : ℕ) → is_idle (w.receiver m).phase ≡ false → changes_super (w.offer n) ≡ true
       → heard_size (w.heard m) ≡ offered_size (w.offer n)
 
+-- what the guards of a wish tell
+pub record Wished (w : Part) (n : ℕ) (o : Offer) : Type 0 where
+  pub known : needs_known o.wish ≡ true → (l : ℕ) → is_unacked (w.view n) l ≡ false
+  pub up : needs_known o.wish ≡ true → is_up (w.state n) ≡ true
+  pub spare : (l : ℕ) → wants_spare o.wish l ≡ true → is_spare ((w.view n).role l) ≡ true
+  pub faulty : (l : ℕ) → wants_faulty o.wish l ≡ true → is_faulty ((w.view n).role l) ≡ true
+  pub adds : (l : ℕ) → rebuilds o.wish l ≡ true
+      → (is_announced (w.adding n).addition l || is_readd (w.adding n).addition l) ≡ true
+  pub rebuilt : (l : ℕ) → rebuilds o.wish l ≡ true → is_rebuilding (o.role l) ≡ true
+  pub promoted : (l : ℕ) → promotes o.wish l ≡ true → is_rebuilding ((w.view n).role l) ≡ true
+  pub worked : (l : ℕ) → promotes o.wish l ≡ true → is_working (o.role l) ≡ true
+  pub all_known : (l : ℕ) → promotes o.wish l ≡ true → needs_known o.wish ≡ true
+
 -- a superblock is proposed
 pub record Proposal (w : Part) (n : ℕ) (o : Offer) : Type 0 where
   pub none : (m : ℕ) → w.offer m ≡ None
@@ -51,12 +69,9 @@ pub record Proposal (w : Part) (n : ℕ) (o : Offer) : Type 0 where
   pub events : o.events ≡ w.drawn + 1
   pub fresh : (l : ℕ) → o.written l ≡ false
   pub working : (l : ℕ) → is_working (o.role l) ≡ true
-      → (is_working ((w.view n).role l) || promotes o.wish l) ≡ true
+      → (works (w.view n) l || promotes o.wish l) ≡ true
   pub faulty : (l : ℕ) → is_faulty (o.role l) ≡ true
       → (is_faulty ((w.view n).role l) || is_working ((w.view n).role l)) ≡ true
-  -- a leg that is to work rebuilds by the roles that the node is sure of
-  pub promoted : (l : ℕ) → promotes o.wish l ≡ true → is_written ((w.view n).sure_role l) ≡ true
-  pub promoter : (l : ℕ) → promotes o.wish l ≡ true → is_up (w.state n) ≡ true
   -- the size is that of the view, or over the one that an up node is sure of
   pub size : ((w.view n).size ≤ o.size)
       ⊎ ((is_up (w.state n) ≡ true) × ((w.view n).sure_size ≤ o.size))
@@ -68,7 +83,10 @@ pub record Writing (w : Part) (n : ℕ) (o : Offer) : Type 0 where
   pub others : (m : ℕ) → m ≢ n → w.offer m ≡ None
   -- nobody loads meanwhile
   pub alone : (m : ℕ) → has_token (w.sender m) ≡ true → is_joining (w.state m) ≡ false
+  pub loaded : (m : ℕ) → is_loaded (w.state m) ≡ true → m ≡ n
   pub eight : AreEight o.role
+  -- what works at the node works by the proposal
+  pub serves : (l : ℕ) → works (w.view n) l ≡ true → is_working (o.role l) ≡ true
 
 -- the node's round of the superblock is whole
 pub record Whole (w : Part) (n : ℕ) (o : Offer) : Type 0 where
@@ -81,6 +99,7 @@ pub record Whole (w : Part) (n : ℕ) (o : Offer) : Type 0 where
   pub eight : AreEight o.role
   pub works : is_working (o.role (first_working o.role)) ≡ true
   pub hearers : Hearers w n
+  pub loaded : (m : ℕ) → is_loaded (w.state m) ≡ true → m ≡ n
   pub processed : (m : ℕ) → m ≢ n → is_in (w.state m) ≡ true
       → has_processed (w.receiver m).phase ≡ true
 
@@ -92,11 +111,14 @@ pub record Hearing (w : Part) (n : ℕ) (role : ℕ → Role) (size : ℕ) : Typ
   pub offered : (l : ℕ) → role l ≡ offered_role (w.offer (w.receiver n).from) l
   pub offered_size : size ≡ offered_size (w.offer (w.receiver n).from)
   pub published : has_published (w.sender (w.receiver n).from) ≡ true
+  -- the node is up, and offers nothing itself
+  pub up : is_up (w.state n) ≡ true
+  pub silent : w.offer n ≡ None
 
 pub data Way (w : Part) : Part → Type 0 where
   still : Way w w
   speaks : (n : ℕ) (s : SenderPhase) → has_published s ≡ has_published (w.sender n)
-      → (has_token (w.sender n) ≡ true → has_token s ≡ true)
+      → (has_token (w.sender n) ≡ true → has_token s ≡ true) → is_offered s ≡ false
       → Way w (record w { sender = with_at w.sender n s })
   voids : (n : ℕ) → has_published (w.sender n) ≡ false
       → Way w (record w { sender = with_at w.sender n senders.MessageHeld; offer = with_at w.offer n None })
@@ -110,10 +132,13 @@ pub data Way (w : Part) : Part → Type 0 where
   comes : (n k : ℕ) (says : Says) (lost : ℕ → Bool) → w.state n ≡ states.Joining
       → is_idle (w.receiver n).phase ≡ true
       → says_of (w.tried n k) ≡ Some says → w.completed ≤ says.events
+      → w.offer n ≡ None → w.copy n ≡ no_copy
       → Way w (record w {
         state = with_at w.state n states.Loaded;
         view = with_at w.view n (new_view (role_of says.roles) says.size lost);
         tried = with_at w.tried n (λ l. Untried);
+        copy = with_at w.copy n (covering (w.copy n) (new_view (role_of says.roles) says.size lost));
+        ghost = with_source w.ghost n k;
       })
   goes : (n : ℕ) → has_published (w.sender n) ≡ false → is_idle (w.receiver n).phase ≡ true
       → Way w (record w {
@@ -123,6 +148,8 @@ pub data Way (w : Part) : Part → Type 0 where
         offer = with_at w.offer n None;
         heard = with_at w.heard n None;
         tried = with_at w.tried n (λ l. Untried);
+        adding = with_at w.adding n not_adding;
+        copy = with_at w.copy n no_copy;
       })
   dies : (n : ℕ)
       → Way w (record w {
@@ -133,15 +160,17 @@ pub data Way (w : Part) : Part → Type 0 where
         receiver = λ m. if m == n then new_receiving else if has_published (w.sender n) then heard_death n (w.receiver m) else w.receiver m;
         heard = with_at w.heard n None;
         tried = with_at w.tried n (λ l. Untried);
+        adding = with_at w.adding n not_adding;
+        copy = with_at w.copy n no_copy;
       })
-  offers : (n : ℕ) (o : Offer) → Proposal w n o
+  offers : (n : ℕ) (o : Offer) → Proposal w n o → Wished w n o
       → Way w (record w {
         sender = with_at w.sender n senders.Offered;
         offer = with_at w.offer n (Some o);
         drawn = w.drawn + 1;
         ghost = with_promoted w.ghost o.wish;
       })
-  offers_other : (n : ℕ) (o : Offer) → is_metadata o.wish ≡ false → has_published (w.sender n) ≡ false
+  offers_other : (n : ℕ) (o : Offer) → is_metadata o.wish ≡ false → has_published (w.sender n) ≡ false → Wished w n o
       → Way w (record w {
         sender = with_at w.sender n senders.Offered;
         offer = with_at w.offer n (Some o);
@@ -157,7 +186,7 @@ pub data Way (w : Part) : Part → Type 0 where
   -- a write that failed, and left the new superblock
   leaves : (n l : ℕ) (o : Offer) → Writing w n o
       → Way w (record w { super = with_at w.super l (Some (says_of_offer o)) })
-  loses : (n l : ℕ) → Way w (record w { view = with_at w.view n (lost_one (w.view n) l) })
+  loses : (n l : ℕ) → is_offered (w.sender n) ≡ false → Way w (record w { view = with_at w.view n (lost_one (w.view n) l) })
   finishes : (n : ℕ) (o : Offer) → Whole w n o
       → Way w (record w {
         state = with_at w.state n states.Up;
@@ -165,7 +194,9 @@ pub data Way (w : Part) : Part → Type 0 where
         sender = with_at w.sender n senders.Idle;
         offer = with_at w.offer n None;
         completed = o.events;
-        ghost = with_finish w.ghost o;
+        adding = with_at w.adding n (adding_after (w.adding n) o.wish);
+        copy = with_at w.copy n (covering (w.copy n) (finished (w.view n) o.role o.size));
+        ghost = with_finish w.ghost o (w.adding n).addition;
       })
   -- a round that doesn't change the superblock ends, or one that isn't published is given up
   idles : (n : ℕ) → is_joining (w.state n) ≡ false
@@ -177,6 +208,8 @@ pub data Way (w : Part) : Part → Type 0 where
       → Way w (record w {
         view = with_at w.view n (view_taken (w.view n) (role_of roles) size);
         receiver = receiver_now w n receivers.Waiting;
+        adding = with_at w.adding n (record (w.adding n) { addition = Nothing });
+        copy = with_at w.copy n (covering (w.copy n) (view_taken (w.view n) (role_of roles) size));
       })
   passes : (n : ℕ) → told_state (w.heard n) ≡ false
       → Way w (record w { receiver = receiver_now w n receivers.Waiting })
@@ -191,6 +224,19 @@ pub data Way (w : Part) : Part → Type 0 where
         receiver = receiver_now w n receivers.Idle;
         heard = with_at w.heard n None;
       })
+
+  -- a device is announced, or is to be removed or added again
+  announces : (n : ℕ) (o : Offer) → w.offer n ≡ Some o → needs_known o.wish ≡ true → is_metadata o.wish ≡ false → is_up (w.state n) ≡ true
+      → Way w (record w { adding = with_at w.adding n (adding_after (w.adding n) o.wish) })
+  gathers : (n : ℕ) (a : Adding) → a.addition ≡ (w.adding n).addition
+      → Way w (record w { adding = with_at w.adding n a })
+  -- a pass that covers no other legs goes on or ends, and one begins
+  copies : (n : ℕ) (c : Copy) → ((l : ℕ) → covers c l ≡ true → covers (w.copy n) l ≡ true)
+      → Way w (record w { copy = with_at w.copy n c })
+  passes_over : (n : ℕ) (c : Copy) → is_up (w.state n) ≡ true
+      → ((l : ℕ) → covers c l ≡ true → is_unacked (w.view n) l ≡ false)
+      → ((l : ℕ) → covers c l ≡ true → (is_rebuilding ((w.view n).role l) || is_again_of (w.adding n).addition l) ≡ true)
+      → Way w (record w { copy = with_at w.copy n c })
 
 -- some ways, one after the other
 pub data Ways (w : Part) : Part → Type 0 where
