@@ -8,6 +8,14 @@ pub mod RoleSteps
 pub mod LateSteps
 pub mod SizeSteps
 pub mod Known
+pub mod Legwise
+pub mod Additions
+pub mod AddingWords
+pub mod WishSteps
+pub mod AddingSteps
+pub mod CoverSteps
+pub mod MissedSteps
+pub mod AdditionSteps
 pub mod Rows
 pub mod WishGuards
 pub mod OfferRows

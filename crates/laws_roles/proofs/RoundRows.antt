@@ -292,18 +292,19 @@ module _ (core : Core) (k : Known core) (sup : ℕ → Option Says) (g : Ghost) 
 
   -- what the finish of a round about a device makes of the addition
   device_way : (n : ℕ) (o : Offer) (w : Wish) → o.wish ≡ w → needs_known w ≡ true → is_metadata w ≡ false → core.offer n ≡ Some o → is_in (core.state n) ≡ true → up_offers (core.state n) w ≡ true
+      → is_idle (core.receiver n).phase ≡ true
       → Ways Here (record Here { sender = with_at core.sender n senders.Idle; offer = with_at core.offer n None; adding = with_at core.adding n (adding_after (core.adding n) w) })
-  device_way n o w e known other is up fits =
+  device_way n o w e known other is up fits idle =
       subst (λ x. Ways Here (record Here { sender = with_at core.sender n senders.Idle; offer = with_at core.offer n None; adding = with_at core.adding n (adding_after (core.adding n) x) })) e
-      (more (one (announces n o is (ap needs_known e ∙ known) (ap is_metadata e ∙ other) (is_up_by (core.state n) w other known up fits)))
+      (more (one (announces n o is (ap needs_known e ∙ known) (ap is_metadata e ∙ other) (is_up_by (core.state n) w other known up fits) idle))
       (idles n (not_joining (core.state n) up) (idle_told n o is (ap is_metadata e ∙ other))))
 
   finish_by : (n : ℕ) (o : Offer) (w : Wish) → o.wish ≡ w → core.offer n ≡ Some o → core.sender n ≡ senders.Granted → is_in (core.state n) ≡ true
       → Ways Here (part_of (finish_wish (round_over core n) n o w) sup (if is_metadata w then with_finish g o (core.adding n).addition else g))
   finish_by n o (wishes.Range r) w is s up = more (one (idle_way n o is (ap is_metadata w) up)) (copies n (record (core.copy n) { window = entry_of r }) (λ l e. e))
-  finish_by n o (wishes.NewDisk l) w is s up = device_way n o (wishes.NewDisk l) w refl refl is up (its_fit n o (wishes.NewDisk l) w is s)
-  finish_by n o (wishes.Remove l) w is s up = device_way n o (wishes.Remove l) w refl refl is up (its_fit n o (wishes.Remove l) w is s)
-  finish_by n o (wishes.ReAdd l) w is s up = device_way n o (wishes.ReAdd l) w refl refl is up (its_fit n o (wishes.ReAdd l) w is s)
+  finish_by n o (wishes.NewDisk l) w is s up = device_way n o (wishes.NewDisk l) w refl refl is up (its_fit n o (wishes.NewDisk l) w is s) (ap is_idle (k.rounded.phased.sending n (ap may_receive s)))
+  finish_by n o (wishes.Remove l) w is s up = device_way n o (wishes.Remove l) w refl refl is up (its_fit n o (wishes.Remove l) w is s) (ap is_idle (k.rounded.phased.sending n (ap may_receive s)))
+  finish_by n o (wishes.ReAdd l) w is s up = device_way n o (wishes.ReAdd l) w refl refl is up (its_fit n o (wishes.ReAdd l) w is s) (ap is_idle (k.rounded.phased.sending n (ap may_receive s)))
   finish_by n o wishes.Unclean w is s up =
       subst (λ x. Ways Here (record (part_of (finish_wish (round_over core n) n o wishes.Unclean) sup g) { sender = x })) (with_twice core.sender n senders.Idle)
       (more (one (idle_way n o is (ap is_metadata w) up)) (goes n (idle_silent n) (ap is_idle (k.rounded.phased.sending n (ap may_receive s)))))

@@ -227,6 +227,7 @@ pub data Way (w : Part) : Part → Type 0 where
 
   -- a device is announced, or is to be removed or added again
   announces : (n : ℕ) (o : Offer) → w.offer n ≡ Some o → needs_known o.wish ≡ true → is_metadata o.wish ≡ false → is_up (w.state n) ≡ true
+      → is_idle (w.receiver n).phase ≡ true
       → Way w (record w { adding = with_at w.adding n (adding_after (w.adding n) o.wish) })
   gathers : (n : ℕ) (a : Adding) → a.addition ≡ (w.adding n).addition
       → Way w (record w { adding = with_at w.adding n a })
