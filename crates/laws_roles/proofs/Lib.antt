@@ -16,6 +16,8 @@ pub mod AddingSteps
 pub mod CoverSteps
 pub mod MissedSteps
 pub mod AdditionSteps
+pub mod Sources
+pub mod SourceSteps
 pub mod Rows
 pub mod WishGuards
 pub mod OfferRows
@@ -24,5 +26,6 @@ pub mod OtherRows
 pub mod Standing
 pub mod SuperRows
 pub mod Opening
+pub mod First
 pub mod Runs
 pub mod Promises

@@ -1,5 +1,5 @@
 -- Each way keeps what is known of what legs missed.
-use Rattle.std.proofs.Common.{◌≡◌, ℕ, ◌==◌, ◌&&◌, ◌||◌, Bool, true, false, if◌then◌else◌, Option, Some, None, arith}
+use Rattle.std.proofs.Common.{arith}
 use Rattle.std.proofs.lemmas.Bool.Decides.{nat_tests}
 use Rattle.laws_roles.proofs.Parts.{Part}
 use Rattle.laws_roles.proofs.Ways.{Way, goes, dies, finishes, hears, announces, gathers}

@@ -1,30 +1,22 @@
 -- The ways of an offer.
-use Rattle.std.proofs.Common.{◌≡◌, ◌⊎◌, inl, inr, ℕ, ◌<◌, ◌≤◌, ◌==◌, ◌&&◌, ◌||◌, Bool, true, false, not, if◌then◌else◌, ◌∷◌, Option, Some, None, refl, ap, subst, arith, nat_lt}
+use Rattle.std.proofs.Common.{◌≡◌, ◌⊎◌, inl, inr, ℕ, ◌≤◌, ◌&&◌, ◌||◌, Bool, true, false, not, if◌then◌else◌, Option, None, refl, ap, arith, nat_lt}
 use Rattle.std.proofs.lemmas.Bool.Decides.{nat_tests}
-use Rattle.dlm_modes.proofs.FirstLaws.{first_such_none}
-use Rattle.dlm_modes.specs.Guards.{first_of, unless, or_then}
-use Rattle.mdc_types.specs.Roles.{is_working, is_faulty, is_rebuilding, is_written}
+use Rattle.dlm_modes.specs.Guards.{first_of}
+use Rattle.mdc_types.specs.Roles.{is_working, is_faulty}
 use Rattle.mdc_types.specs.declared.events.Wish.{Wish}
 use Rattle.mdc_types.specs.declared.events.Wish.TheVariants as wishes
-use Rattle.mdc_types.specs.declared.refusals.Refusal.TheVariants.{NoLeg, NotRole, NotUp, NoSize, Unacked}
+use Rattle.mdc_types.specs.declared.refusals.Refusal.TheVariants.{NoSize}
 use Rattle.mdc_types.specs.declared.roles.Role.{Role}
 use Rattle.mdc_types.specs.declared.roles.NodeState.{NodeState}
 use Rattle.mdc_types.specs.declared.roles.NodeState.TheVariants as states
 use Rattle.md_superblock.specs.Arrays.{Says}
 use Rattle.msg_rounds.specs.Phases.{is_idle, has_published, may_receive}
-use Rattle.msg_rounds.specs.Refusals.{is_message_held}
-use Rattle.msg_rounds.specs.declared.phases.SenderPhase.{SenderPhase}
-use Rattle.msg_rounds.specs.declared.phases.SenderPhase.TheVariants as senders
-use Rattle.leg_failure.specs.Sets.{is_same, given_up}
-use Rattle.leg_failure.specs.Views.{works, NodeView, is_unacked, unacked_leg, proposed_role}
-use Rattle.laws_rounds.specs.Invariants.{fits}
+use Rattle.leg_failure.specs.Sets.{given_up}
+use Rattle.leg_failure.specs.Views.{works, NodeView, proposed_role}
 use Rattle.cluster_model.specs.State.{Core, sizes}
-use Rattle.cluster_model.specs.Guards.{is_out, no_node, not_fenced}
-use Rattle.cluster_model.specs.Phases.{is_in, is_up, is_metadata, sender_is}
+use Rattle.cluster_model.specs.Phases.{is_in, is_up, is_metadata}
 use Rattle.cluster_model.specs.Wishes.{loaded_offers, wish_guards, offer_guards, may_grow, with_change, proposed_size, offer_of, offered}
-use Rattle.laws_locks.specs.Rounded.{has_token, stands}
-use Rattle.laws_sound.proofs.Guarded.{all_none, first_none, unless_none, refused_none}
-use Rattle.laws_sound.proofs.RoundFacts.{no_offer}
+use Rattle.laws_sound.proofs.Guarded.{all_none, unless_none}
 use Rattle.laws_roles.proofs.Parts.{Part, Ghost, part_of, promotes, with_wish}
 use Rattle.laws_roles.proofs.Ways.{Ways, one, offers, offers_other, Proposal}
 use Rattle.laws_roles.proofs.Known.{Known}

@@ -1,19 +1,22 @@
 -- What follows at each place: who may be read.
-use Rattle.std.proofs.Common.{◌≡◌, ◌⊎◌, inl, inr, ℕ, ◌<◌, ◌≤◌, ◌&&◌, ◌||◌, not, Bool, true, false, if◌then◌else◌, List, [], ◌∷◌, Option, Some, None, refl, sym, ap, subst, ◌∙◌, arith}
+use Rattle.std.proofs.Common.{◌≡◌, ◌≢◌, ◌==◌, ◌⊎◌, inl, inr, ℕ, ◌<◌, ◌≤◌, ◌&&◌, not, Bool, true, false, if◌then◌else◌, List, [], ◌∷◌, Option, Some, None, refl, sym, ap, subst, ◌∙◌, arith}
 use Rattle.std.specs.Prelude.{is_some}
+use Rattle.std.proofs.lemmas.Bool.Decides.{nat_tests}
 use Rattle.dlm_modes.proofs.FirstLaws.{first_such_none}
-use Rattle.mdc_types.specs.Roles.{is_working, is_written}
+use Rattle.mdc_types.specs.Roles.{role_of, is_working, is_rebuilding, is_faulty, is_spare, is_written}
 use Rattle.mdc_types.specs.declared.events.Event.{Event}
 use Rattle.mdc_types.specs.declared.events.Event.TheVariants as events
 use Rattle.mdc_types.specs.declared.outcomes.Entry.{Entry}
 use Rattle.mdc_types.specs.declared.roles.Role.{Role}
-use Rattle.mdc_types.specs.declared.roles.Role.TheVariants.{Working}
+use Rattle.mdc_types.specs.declared.roles.Role.TheVariants.{Working, Rebuilding, Faulty, Spare}
 use Rattle.mdc_types.specs.declared.roles.NodeState.{NodeState}
 use Rattle.mdc_types.specs.declared.roles.NodeState.TheVariants as states
 use Rattle.md_superblock.specs.Arrays.{Array, Says}
-use Rattle.leg_failure.specs.Sets.{is_same}
 use Rattle.leg_failure.specs.Views.{works, is_target, is_unacked}
+use Rattle.disk_addition.specs.Wishes.{is_announced, is_removing, is_readd}
 use Rattle.disk_addition.specs.declared.addition.Addition.{Addition}
+use Rattle.disk_addition.specs.declared.addition.Addition.TheVariants.{Nothing}
+use Rattle.cluster_model.specs.Gathering.{is_again_of}
 use Rattle.cluster_model.specs.State.{State, Core, Offer}
 use Rattle.cluster_model.specs.Phases.{is_in, is_up, is_metadata}
 use Rattle.cluster_model.specs.Opening.{Origin, array_of}
@@ -26,11 +29,12 @@ use Rattle.laws_sound.proofs.Runs.{runs_keep_a_leg}
 use Rattle.laws_sound.proofs.Supers.{says_fit}
 use Rattle.laws_locks.specs.Following.{core_after}
 use Rattle.laws_roles.specs.Agreed.{Agreed, agreed_on, agreed_after, agreed_in}
-use Rattle.laws_roles.specs.Laws.{Tells, RunsAreShut, Superblocks, RunsHaveSuperblocks, RunsKeepTheSize, RunsLeaveALeg, CalledBy, RolesHold, RunsHaveRoles}
-use Rattle.laws_roles.proofs.Parts.{Part, Ghost, supers, number, said_role, said_size, is_late, ghost_after, ghost_in, finished_by, with_finish, with_promoted}
+use Rattle.laws_roles.specs.Laws.{Tells, RunsAreShut, Superblocks, RunsHaveSuperblocks, RunsKeepTheSize, RunsLeaveALeg, CalledBy, RolesHold, RunsHaveRoles, AdditionsFit, RunsFitAdditions}
+use Rattle.laws_roles.proofs.Parts.{covers, covered_by, is_loaded, is_nothing, Part, Ghost, supers, number, said_role, said_size, ghost_after, ghost_in, finished_by, with_finish, with_promoted}
 use Rattle.laws_roles.proofs.Numbers.{Numbers}
 use Rattle.laws_roles.proofs.Roles.{Roles}
 use Rattle.laws_roles.proofs.Opening.{says_leg}
+use Rattle.laws_roles.proofs.Legwise.{legwise, not_lost}
 use Rattle.laws_roles.proofs.Runs.{Holds, At, home, holds, grows, array_is}
 use Rattle.laws_roles.proofs.Known.{known}
 
@@ -60,12 +64,6 @@ ghost_agreed o home (x ∷ past) =
 
 -- In one state.
 
-same_role : (r s : Role) → is_same r s ≡ true → r ≡ s
-same_role r s e = grind arith
-
-acked : (lost same : Bool) → (lost || not same) ≡ false → (lost ≡ false) × (same ≡ true)
-acked lost same e = grind arith
-
 up_is : (s : NodeState) → s ≡ states.Up → is_up s ≡ true
 up_is s e = ap is_up e
 
@@ -82,29 +80,51 @@ targeted : (written lost unacked : Bool) → written ≡ true → lost ≡ false
 targeted written lost unacked w l = grind arith
 
 module _ (w : Part) (e : Numbers w) (r : Roles w) where
-  -- an up node that has nothing unacked of a leg gives it the role that was agreed on
-  pub legwise : (n l : ℕ) → w.state n ≡ states.Up → is_unacked (w.view n) l ≡ false → ((w.view n).lost l ≡ false) × ((w.view n).role l ≡ w.ghost.agreed.role l)
-  legwise n l up known =
-      let two = acked ((w.view n).lost l) (is_same ((w.view n).role l) ((w.view n).sure_role l)) known in
-      let same = same_role ((w.view n).role l) ((w.view n).sure_role l) two.1 in
-      (two.0, by (is_late w n) refl same)
-    where
-      by : (b : Bool) → is_late w n ≡ b → (w.view n).role l ≡ (w.view n).sure_role l → (w.view n).role l ≡ w.ghost.agreed.role l
-      by true late same = r.late_roles n l late
-      by false late same = same ∙ r.sure_roles n l (up_is (w.state n) up) late
-
-  -- a good leg is a target of each up node, or unacked there
-  pub good_target : (n l : ℕ) → w.state n ≡ states.Up → w.ghost.good l ≡ true → (is_target (w.view n) l ≡ true) ⊎ (is_unacked (w.view n) l ≡ true)
-  good_target n l up good = by (is_unacked (w.view n) l) refl
+  -- a leg that is agreed to be written is a target of each up node, or unacked there
+  pub agreed_target : (n l : ℕ) → w.state n ≡ states.Up → is_written (w.ghost.agreed.role l) ≡ true → (is_target (w.view n) l ≡ true) ⊎ (is_unacked (w.view n) l ≡ true)
+  agreed_target n l up written = by (is_unacked (w.view n) l) refl
     where
       by : (b : Bool) → is_unacked (w.view n) l ≡ b → (is_target (w.view n) l ≡ true) ⊎ (is_unacked (w.view n) l ≡ true)
       by true known = inr known
       by false known =
-          let is = legwise n l up known in
-          inl (targeted (is_written ((w.view n).role l)) ((w.view n).lost l) false (ap is_written is.1 ∙ r.good_written l good) is.0)
+          let role = legwise w r n l (up_is (w.state n) up) known in
+          inl (targeted (is_written ((w.view n).role l)) ((w.view n).lost l) false (ap is_written role ∙ written) (not_lost w n l known))
+
+  pub good_target : (n l : ℕ) → w.state n ≡ states.Up → w.ghost.good l ≡ true → (is_target (w.view n) l ≡ true) ⊎ (is_unacked (w.view n) l ≡ true)
+  good_target n l up good = agreed_target n l up (r.good_written l good)
 
   pub served_good : (n l : ℕ) → w.state n ≡ states.Up → works (w.view n) l ≡ true → w.ghost.good l ≡ true
   served_good n l up works_there = r.view_good n l (up_in (w.state n) up) (works_role (is_working ((w.view n).role l)) ((w.view n).lost l) works_there)
+
+rebuilding_written : (r : Role) → is_rebuilding r ≡ true → is_written r ≡ true
+rebuilding_written r e = grind arith
+
+working_role : (r : Role) → is_working r ≡ true → r ≡ Working
+working_role Working e = refl
+working_role r e = cc
+
+rebuilding_role : (r : Role) → is_rebuilding r ≡ true → r ≡ Rebuilding
+rebuilding_role Rebuilding e = refl
+rebuilding_role r e = cc
+
+faulty_role : (r : Role) → is_faulty r ≡ true → r ≡ Faulty
+faulty_role Faulty e = refl
+faulty_role r e = cc
+
+spare_role : (r : Role) → is_spare r ≡ true → r ≡ Spare
+spare_role Spare e = refl
+spare_role r e = cc
+
+up_role : (s : NodeState) → is_up s ≡ true → s ≡ states.Up
+up_role states.Up e = refl
+up_role s e = cc
+
+something : (a : Addition) → a ≢ Nothing → is_nothing a ≡ false
+something Nothing some = absurd (some refl)
+something a some = refl
+
+same_leg : (l : ℕ) → (l == l) ≡ true
+same_leg l = grind (arith, nat_tests)
 
 not_both : (b : Bool) → b ≡ false → b ≡ true → ⊥
 not_both b f t = cc
@@ -145,7 +165,7 @@ module _ (o : Origin) (start end : State) (past : List Entry) (opens : Opens o s
   agreed_role l = ap (λ (a : Agreed). a.role l) (ghost_agreed o (home o start opens tells) past)
 
   role_here : (n l : ℕ) → end.core.state n ≡ states.Up → is_unacked (end.core.view n) l ≡ false → (end.core.view n).role l ≡ (agreed_in o past).role l
-  role_here n l up known = (legwise (At o start opens tells past end) h.numbers h.roles n l up known).1 ∙ agreed_role l
+  role_here n l up known = legwise (At o start opens tells past end) h.roles n l (up_is (end.core.state n) up) known ∙ agreed_role l
 
   called_good : (l : ℕ) → CalledBy end l ⊎ CalledIn end Working l → (ghost_in o (home o start opens tells) past).good l ≡ true
   called_good l (inl c) = h.roles.view_good c.node l c.inside (ap is_working c.role)
@@ -155,6 +175,9 @@ module _ (o : Origin) (start end : State) (past : List Entry) (opens : Opens o s
   roles_here = record {
     called = λ l c. ap is_written (sym (agreed_role l)) ∙ h.roles.good_written l (called_good l c);
     written = λ n l up t. good_target (At o start opens tells past end) h.numbers h.roles n l up (trusted_here l t);
+    covered = λ n m l pass up is covered.
+        let by_pass : covers (end.core.copy m) l ≡ true = ap (λ x. covered_by x l) is ∙ covered in
+        agreed_target (At o start opens tells past end) h.numbers h.roles n l up (rebuilding_written ((ghost_in o (home o start opens tells) past).agreed.role l) (h.additions.covers_agreed m l by_pass));
     roles = role_here;
     all_roles = λ n l up acknowledged lt.
         let legs = (known o start end past opens run).range.legs.sizes_fit.legs.1 in
@@ -175,11 +198,30 @@ module _ (o : Origin) (start end : State) (past : List Entry) (opens : Opens o s
   current_at : (k : ℕ) → end.core.members.completed ≤ number (supers (array_of o) end.legs k) → Current end k
   current_at k new = current_by k (super_on end.core.array end.legs k) refl (subst (λ a. end.core.members.completed ≤ number (supers a end.legs k)) (sym array) new)
 
+  called_at : (k l : ℕ) (x : Option Says) → super_on end.core.array end.legs k ≡ x → end.core.members.completed ≤ number x → is_working (said_role x l) ≡ true → CalledIn end Working l
+  called_at k l None is new w = cc
+  called_at k l (Some says) is new w = record {
+    leg = k;
+    current = record {
+      leg = (says_leg end.core.array k (end.legs.content k 8).bytes says is).leg;
+      says = says;
+      stands = is;
+      new = new;
+    };
+    called = working_role (role_of says.roles l) w;
+  }
+
+  called_by : (k l : ℕ) → end.core.members.completed ≤ number (supers (array_of o) end.legs k) → is_working (said_role (supers (array_of o) end.legs k) l) ≡ true → CalledIn end Working l
+  called_by k l new w =
+      called_at k l (super_on end.core.array end.legs k) refl (subst (λ a. end.core.members.completed ≤ number (supers a end.legs k)) (sym array) new)
+      (subst (λ a. is_working (said_role (supers a end.legs k) l) ≡ true) (sym array) w)
+
   pub superblocks_here : Superblocks end
   superblocks_here = record {
     each = λ k lt. subst (λ a. is_some (supers a end.legs k) ≡ true) (sym array) (h.each k (subst (λ (a : Array). k < a.sizes.legs) array lt));
     current = ((ghost_in o (home o start opens tells) past).home, current_at (ghost_in o (home o start opens tells) past).home h.numbers.home_current);
     served = λ l s. current_at l (h.numbers.written_current s.node l (up_is (end.core.state s.node) s.up) (h.roles.good_written l (served_here l s)));
+    loaded = λ n l s works_there. called_by ((ghost_in o (home o start opens tells) past).source n) l (h.sources.source_current n (ap is_loaded s)) (h.sources.source_works n l (ap is_loaded s) works_there);
     same = λ j k a b is_a is_b e. same_by j k a b (stands_here j a is_a) (stands_here k b is_b) e;
   }
     where
@@ -188,6 +230,19 @@ module _ (o : Origin) (start end : State) (past : List Entry) (opens : Opens o s
           let both = h.numbers.same_says j k (ap number is_a ∙ e ∙ sym (ap number is_b)) in
           let equal : Some a ≡ Some b = sym is_a ∙ both ∙ is_b in
           cc
+
+  -- Additions.
+
+  pub additions_here : AdditionsFit (agreed_in o past) end
+  additions_here = record {
+    up = λ n some. up_role (end.core.state n) (h.additions.adder_up n (something (end.core.adding n).addition some));
+    roles = λ n l some. h.additions.adder_roles n l (something (end.core.adding n).addition some) ∙ agreed_role l;
+    announced = λ n l is. sym (agreed_role l) ∙ spare_role _ (h.additions.announced_spare n l (ap (λ a. is_announced a l) is ∙ same_leg l));
+    removing = λ n l is. sym (agreed_role l) ∙ faulty_role _ (h.additions.removing_faulty n l (ap (λ a. is_removing a l) is ∙ same_leg l));
+    readd = λ n l is. sym (agreed_role l) ∙ faulty_role _ (h.additions.readd_faulty n l (ap (λ a. is_readd a l) is ∙ same_leg l));
+    again = λ n l is. sym (agreed_role l) ∙ rebuilding_role _ (h.additions.again_rebuilding n l (ap (λ a. is_again_of a l) is ∙ same_leg l));
+    covered = λ n l pass is covered. sym (agreed_role l) ∙ rebuilding_role _ (h.additions.covers_agreed n l (ap (λ x. covered_by x l) is ∙ covered));
+  }
 
   -- Sizes.
 
@@ -223,6 +278,9 @@ runs_have_superblocks o start end past opens tells run = superblocks_here o star
 
 pub runs_keep_the_size : RunsKeepTheSize
 runs_keep_the_size o start end past opens tells run = size_here o start end past opens tells run
+
+pub runs_fit_additions : RunsFitAdditions
+runs_fit_additions o start end past opens tells run = additions_here o start end past opens tells run
 
 pub runs_leave_a_leg : RunsLeaveALeg
 runs_leave_a_leg o start end past opens run =

@@ -25,13 +25,18 @@ use Rattle.laws_roles.proofs.Ways.{Way, Ways, writes, leaves}
 use Rattle.laws_roles.proofs.Numbers.{Numbers}
 use Rattle.laws_roles.proofs.Roles.{Roles}
 use Rattle.laws_roles.proofs.Sizes.{SizesHold}
+use Rattle.laws_roles.proofs.Additions.{Additions}
+use Rattle.laws_roles.proofs.Sources.{Sources}
+use Rattle.laws_roles.proofs.AdditionSteps.{additions_step}
+use Rattle.laws_roles.proofs.SourceSteps.{sources_step}
 use Rattle.laws_roles.proofs.NumberSteps.{numbers_step}
 use Rattle.laws_roles.proofs.LateSteps.{roles_step}
 use Rattle.laws_roles.proofs.SizeSteps.{sizes_step, never_shrinks}
 use Rattle.laws_roles.proofs.Known.{Known, known}
 use Rattle.laws_roles.proofs.Standing.{Bytes}
 use Rattle.laws_roles.proofs.SuperRows.{move_way}
-use Rattle.laws_roles.proofs.Opening.{opening_begins, first_numbers, first_roles, first_sizes}
+use Rattle.laws_roles.proofs.Opening.{opening_begins}
+use Rattle.laws_roles.proofs.First.{first_numbers, first_roles, first_sizes, first_additions, first_sources}
 
 -- The array stays, and whether legs tell.
 
@@ -71,6 +76,8 @@ pub record Holds (legs : ℕ) (w : Part) : Type 0 where
   pub numbers : Numbers w
   pub roles : Roles w
   pub sizes : SizesHold w
+  pub additions : Additions w
+  pub sources : Sources w
   pub each : (k : ℕ) → k < legs → is_some (w.super k) ≡ true
 
 each_step : (w v : Part) → Way w v → (k : ℕ) → is_some (w.super k) ≡ true → is_some (v.super k) ≡ true
@@ -83,6 +90,8 @@ way_holds legs w v x h = record {
   numbers = numbers_step w v x h.numbers;
   roles = roles_step w v x h.numbers h.roles;
   sizes = sizes_step w v x h.numbers h.sizes;
+  additions = additions_step w v x h.numbers h.roles h.additions;
+  sources = sources_step w v x h.numbers h.sources;
   each = λ k lt. each_step w v x k (h.each k lt);
 }
 
@@ -128,6 +137,8 @@ module _ (o : Origin) (start : State) (opens : Opens o start) (tells : Tells o s
         numbers = first_numbers o opens.origin sup b;
         roles = first_roles o opens.origin sup b;
         sizes = first_sizes o opens.origin sup b;
+        additions = first_additions o opens.origin sup b;
+        sources = first_sources o opens.origin sup b;
         each = λ k lt. ap is_some (b.found k lt);
       })
 

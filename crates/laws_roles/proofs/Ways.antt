@@ -224,7 +224,6 @@ pub data Way (w : Part) : Part → Type 0 where
         receiver = receiver_now w n receivers.Idle;
         heard = with_at w.heard n None;
       })
-
   -- a device is announced, or is to be removed or added again
   announces : (n : ℕ) (o : Offer) → w.offer n ≡ Some o → needs_known o.wish ≡ true → is_metadata o.wish ≡ false → is_up (w.state n) ≡ true
       → is_idle (w.receiver n).phase ≡ true

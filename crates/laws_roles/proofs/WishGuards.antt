@@ -1,5 +1,5 @@
 -- What the guards of an offer tell.
-use Rattle.std.proofs.Common.{◌∙◌, ◌≡◌, ◌⊎◌, inl, inr, ℕ, ◌<◌, ◌≤◌, ◌==◌, ◌&&◌, ◌||◌, Bool, true, false, not, if◌then◌else◌, ◌∷◌, Option, Some, None, refl, ap, subst, arith, nat_lt}
+use Rattle.std.proofs.Common.{◌∙◌, ◌≡◌, inl, inr, ℕ, ◌==◌, ◌&&◌, ◌||◌, Bool, true, false, not, if◌then◌else◌, ◌∷◌, Option, Some, None, refl, ap, subst, arith}
 use Rattle.std.proofs.lemmas.Bool.Decides.{nat_tests}
 use Rattle.dlm_modes.proofs.FirstLaws.{first_such_none}
 use Rattle.dlm_modes.specs.Guards.{first_of, unless, or_then}
@@ -7,30 +7,29 @@ use Rattle.dlm_modes.specs.Points.{with_at}
 use Rattle.mdc_types.specs.Roles.{is_spare, is_rebuilding, is_working, is_faulty}
 use Rattle.mdc_types.specs.declared.events.Wish.{Wish}
 use Rattle.mdc_types.specs.declared.events.Wish.TheVariants as wishes
-use Rattle.mdc_types.specs.declared.refusals.Refusal.TheVariants.{NoLeg, NotRole, NotUp, NoSize, Unacked}
+use Rattle.mdc_types.specs.declared.refusals.Refusal.TheVariants.{NotRole, NotUp, Unacked}
 use Rattle.mdc_types.specs.declared.roles.Role.{Role}
 use Rattle.mdc_types.specs.declared.roles.Role.TheVariants.{Spare, Rebuilding, Working}
 use Rattle.std.proofs.lemmas.Bool.{cases_lt}
 use Rattle.mdc_types.specs.declared.roles.NodeState.{NodeState}
 use Rattle.mdc_types.specs.declared.roles.NodeState.TheVariants as states
 use Rattle.md_superblock.specs.Arrays.{Says}
-use Rattle.msg_rounds.specs.Phases.{is_idle, has_published, may_receive}
 use Rattle.msg_rounds.specs.Refusals.{is_message_held}
 use Rattle.msg_rounds.specs.declared.phases.SenderPhase.{SenderPhase}
 use Rattle.msg_rounds.specs.declared.phases.SenderPhase.TheVariants as senders
 use Rattle.disk_addition.specs.Wishes.{suits, is_announced, is_readd}
-use Rattle.leg_failure.specs.Sets.{is_same, given_up}
-use Rattle.leg_failure.specs.Views.{NodeView, is_unacked, unacked_leg, proposed_role}
+use Rattle.leg_failure.specs.Sets.{is_same}
+use Rattle.leg_failure.specs.Views.{is_unacked, unacked_leg, proposed_role}
 use Rattle.laws_rounds.specs.Invariants.{fits}
-use Rattle.cluster_model.specs.State.{Core, sizes}
+use Rattle.cluster_model.specs.State.{Core}
 use Rattle.cluster_model.specs.Guards.{is_out, no_node, not_fenced}
-use Rattle.cluster_model.specs.Phases.{is_in, is_up, is_metadata, sender_is}
-use Rattle.cluster_model.specs.Wishes.{holds_device_lock, loaded_offers, wish_guards, offer_guards, may_grow, with_change, proposed_size, offer_of, offered}
+use Rattle.cluster_model.specs.Phases.{is_in, is_up, sender_is}
+use Rattle.cluster_model.specs.Wishes.{holds_device_lock, loaded_offers, wish_guards, offer_guards, offer_of}
 use Rattle.laws_locks.specs.Rounded.{has_token, stands}
 use Rattle.laws_sound.proofs.Guarded.{all_none, first_none, unless_none, refused_none}
 use Rattle.laws_sound.proofs.RoundFacts.{no_offer}
-use Rattle.laws_roles.proofs.Parts.{needs_known, wants_spare, wants_faulty, rebuilds, Part, Ghost, part_of, promotes, with_wish}
-use Rattle.laws_roles.proofs.Ways.{Wished, Ways, one, offers, offers_other, Proposal}
+use Rattle.laws_roles.proofs.Parts.{needs_known, wants_spare, wants_faulty, rebuilds, Ghost, part_of, promotes}
+use Rattle.laws_roles.proofs.Ways.{Wished}
 use Rattle.laws_roles.proofs.Known.{Known}
 
 held_is : (s : SenderPhase) → is_message_held s ≡ true → s ≡ senders.MessageHeld

@@ -1,5 +1,5 @@
 -- Each way keeps what is known of standing wishes.
-use Rattle.std.proofs.Common.{◌≡◌, ℕ, ◌==◌, ◌&&◌, ◌||◌, Bool, true, false, if◌then◌else◌, Option, Some, None, arith}
+use Rattle.std.proofs.Common.{◌≡◌, ℕ, true, arith}
 use Rattle.std.proofs.lemmas.Bool.Decides.{nat_tests}
 use Rattle.mdc_types.specs.declared.events.Wish.{Wish}
 use Rattle.mdc_types.specs.declared.events.Wish.TheVariants as wishes
@@ -13,7 +13,6 @@ use Rattle.laws_roles.proofs.Ways.{Way, Wished, voids, readies, joins, comes, go
 use Rattle.laws_roles.proofs.Numbers.{Numbers}
 use Rattle.laws_roles.proofs.Roles.{Roles}
 use Rattle.laws_roles.proofs.Additions.{Additions, TookNothing, WishRoles, WishUp, WorkRebuilding, WishSpare, WishFaulty, RebuildOffered, WorkOffered, RebuildAdded}
-
 
 -- a node whose wish needs it has the roles that were agreed on
 known_role : (w : Part) → Roles w → (n : ℕ) (o : Offer) → Wished w n o → (l : ℕ) → needs_known o.wish ≡ true → (w.view n).role l ≡ w.ghost.agreed.role l

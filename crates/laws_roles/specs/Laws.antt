@@ -1,11 +1,14 @@
 -- Who may be read, along each run over legs that tell their contents.
-use Rattle.std.specs.Prelude.{◌≡◌, ◌⊎◌, ℕ, ◌<◌, true, false, is_some, List, Some, None}
+use Rattle.std.specs.Prelude.{◌≡◌, ◌≢◌, ◌⊎◌, ℕ, ◌<◌, true, false, is_some, List, Some, None}
 use Rattle.mdc_types.specs.Roles.{role_of, is_written, some_works}
 use Rattle.mdc_types.specs.declared.outcomes.Entry.{Entry}
-use Rattle.mdc_types.specs.declared.roles.NodeState.TheVariants.{Up}
-use Rattle.mdc_types.specs.declared.roles.Role.TheVariants.{Working}
+use Rattle.mdc_types.specs.declared.roles.NodeState.TheVariants.{Loaded, Up}
+use Rattle.mdc_types.specs.declared.roles.Role.TheVariants.{Working, Rebuilding, Faulty, Spare}
 use Rattle.md_superblock.specs.Arrays.{Says, AreBytes}
-use Rattle.leg_failure.specs.Views.{is_target, is_unacked, unacked_leg, working_leg}
+use Rattle.leg_failure.specs.Views.{works, is_target, is_unacked, unacked_leg, working_leg}
+use Rattle.disk_addition.specs.declared.addition.Addition.TheVariants.{Nothing, Announced, Removing}
+use Rattle.disk_addition.specs.declared.addition.Addition.TheVariants.{ReAdd, Again}
+use Rattle.resync_worker.specs.Copying.{Passing}
 use Rattle.cluster_model.specs.State.{State, Offer, sizes}
 use Rattle.cluster_model.specs.Phases.{is_in}
 use Rattle.cluster_model.specs.Contents.{Opens, AllTell}
@@ -38,6 +41,9 @@ pub record Superblocks (state : State) : Type 0 where
       → is_some (super_on state.core.array state.legs k) ≡ true
   pub current : (k : ℕ) × Current state k
   pub served : (l : ℕ) → Served state l → Current state l
+  -- who is loaded and not yet up reads legs that such a superblock calls working
+  pub loaded : (n l : ℕ) → state.core.state n ≡ Loaded → works (state.core.view n) l ≡ true
+      → CalledIn state Working l
   pub same : (j k : ℕ) (a b : Says) → super_on state.core.array state.legs j ≡ Some a
       → super_on state.core.array state.legs k ≡ Some b → a.events ≡ b.events → a ≡ b
 
@@ -76,6 +82,10 @@ pub record RolesHold (agreed : Agreed) (state : State) : Type 0 where
   -- a leg that may be read is a target of each up node, or unacked there
   pub written : (n l : ℕ) → state.core.state n ≡ Up → Trusted state l
       → (is_target (state.core.view n) l ≡ true) ⊎ (is_unacked (state.core.view n) l ≡ true)
+  -- so is a leg that a node's pass covers
+  pub covered : (n m l : ℕ) (pass : Passing) → state.core.state n ≡ Up
+      → (state.core.copy m).pass ≡ Some pass → pass.covered l ≡ true
+      → (is_target (state.core.view n) l ≡ true) ⊎ (is_unacked (state.core.view n) l ≡ true)
   -- an up node gives a leg that isn't unacked there the role that these give it, and has these roles
   -- where nothing is unacked
   pub roles : (n l : ℕ) → state.core.state n ≡ Up → is_unacked (state.core.view n) l ≡ false
@@ -85,3 +95,23 @@ pub record RolesHold (agreed : Agreed) (state : State) : Type 0 where
 
 abbrev pub RunsHaveRoles : Type 0
 RunsHaveRoles = Always (λ o start past end. RolesHold (agreed_in o past) end)
+
+-- A device on its way in or out, at its node, by the roles that were agreed on last.
+pub record AdditionsFit (agreed : Agreed) (state : State) : Type 0 where
+  pub up : (n : ℕ) → (state.core.adding n).addition ≢ Nothing → state.core.state n ≡ Up
+  pub roles : (n l : ℕ) → (state.core.adding n).addition ≢ Nothing
+      → (state.core.view n).role l ≡ agreed.role l
+  pub announced : (n l : ℕ) → (state.core.adding n).addition ≡ Announced l
+      → agreed.role l ≡ Spare
+  pub removing : (n l : ℕ) → (state.core.adding n).addition ≡ Removing l
+      → agreed.role l ≡ Faulty
+  pub readd : (n l : ℕ) → (state.core.adding n).addition ≡ ReAdd l
+      → agreed.role l ≡ Faulty
+  pub again : (n l : ℕ) → (state.core.adding n).addition ≡ Again l
+      → agreed.role l ≡ Rebuilding
+  -- a leg that a pass covers rebuilds
+  pub covered : (n l : ℕ) (pass : Passing) → (state.core.copy n).pass ≡ Some pass
+      → pass.covered l ≡ true → agreed.role l ≡ Rebuilding
+
+abbrev pub RunsFitAdditions : Type 0
+RunsFitAdditions = Always (λ o start past end. AdditionsFit (agreed_in o past) end)

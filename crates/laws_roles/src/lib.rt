@@ -4,7 +4,7 @@
 #![tactic(auto)]
 
 ghost use Rattle.laws_roles.specs.Laws.{RunsAreShut, RunsHaveRoles, RunsHaveSuperblocks};
-ghost use Rattle.laws_roles.specs.Laws.{RunsKeepTheSize, RunsLeaveALeg};
+ghost use Rattle.laws_roles.specs.Laws.{RunsFitAdditions, RunsKeepTheSize, RunsLeaveALeg};
 
 /// At each place of each run, also in the midst of a round and after a broken one: a leg that an up
 /// node doesn't write, and whose loss is acknowledged there, is read by nobody.
@@ -22,7 +22,8 @@ pub fn runs_have_roles()
 
 /// At each place of each run each leg has a superblock of the array, superblocks of one events
 /// number say the same, and a superblock at least as new as the last whole round stands on some leg
-/// and on each leg that is read.
+/// and on each leg that is read. A node that is loaded and not yet up reads legs that one calls
+/// working.
 pub fn runs_have_superblocks()
     ensures { RunsHaveSuperblocks }
 {}
@@ -38,4 +39,11 @@ pub fn runs_keep_the_size()
 /// leg.
 pub fn runs_leave_a_leg()
     ensures { RunsLeaveALeg }
+{}
+
+/// At each place of each run a node with an addition is up and has the roles of the last whole round
+/// of the superblock. By these the leg that it announced is a spare, one that it removes or adds again
+/// is faulty, and one that was added again rebuilds; so does each leg that a pass covers.
+pub fn runs_fit_additions()
+    ensures { RunsFitAdditions }
 {}
