@@ -22,10 +22,13 @@ pub mod Rows
 pub mod WishGuards
 pub mod OfferRows
 pub mod RoundRows
+pub mod FinishRows
+pub mod PassRows
 pub mod OtherRows
 pub mod Standing
 pub mod SuperRows
 pub mod Opening
 pub mod First
 pub mod Runs
+pub mod InState
 pub mod Promises

@@ -1,7 +1,5 @@
 -- The way of each accepted event that writes no superblock.
-use Rattle.std.proofs.lemmas.Bool.Decides.{nat_tests}
-use Rattle.std.specs.Prelude.{option_map}
-use Rattle.std.proofs.Common.{◌==◌, ◌||◌, arith, ◌≡◌, ℕ, Bool, true, false, Option, Some, None, refl, sym, ap, subst, ◌∙◌}
+use Rattle.std.proofs.Common.{◌≡◌, ℕ, Bool, true, false, Option, Some, None, refl, sym, ap, subst, ◌∙◌}
 use Rattle.dlm_modes.specs.Points.{with_at}
 use Rattle.mdc_types.specs.declared.numbers.Sector.{Sector}
 use Rattle.mdc_types.specs.declared.events.Event.{Event}
@@ -13,20 +11,12 @@ use Rattle.mirror_io.specs.Flight.{write_in, read_in, done_in, start_in}
 use Rattle.msg_rounds.specs.Phases.{has_published}
 use Rattle.msg_rounds.specs.declared.phases.SenderPhase.{SenderPhase}
 use Rattle.msg_rounds.specs.declared.phases.SenderPhase.TheVariants as senders
-use Rattle.leg_failure.specs.Views.{lost_one, unacked_leg}
+use Rattle.leg_failure.specs.Views.{lost_one}
 use Rattle.node_recovery.specs.Progress.{Recovering}
-use Rattle.resync_worker.specs.Copying.{Passing, filled, copied, settled_at}
+use Rattle.resync_worker.specs.Copying.{copied}
 use Rattle.resync_worker.specs.declared.buffer.Buffer.{Buffer}
 use Rattle.cluster_model.specs.State.{Core, Asked, sizes}
-use Rattle.laws_sound.proofs.Guarded.{all_none, unless_none, refused_none}
-use Rattle.mdc_types.specs.Geometry.{Sizes}
-use Rattle.mdc_types.specs.Roles.{is_rebuilding}
-use Rattle.mdc_types.specs.declared.refusals.Refusal.TheVariants.{Unacked}
 use Rattle.msg_rounds.specs.Refusals.{is_offered}
-use Rattle.dlm_modes.specs.Guards.{first_of}
-use Rattle.cluster_model.specs.Gathering.{is_again_of}
-use Rattle.cluster_model.specs.Passes.{pass_guards, pass_full, pass_again_guards, pass_again}
-use Rattle.cluster_model.specs.Phases.{is_up}
 use Rattle.cluster_model.specs.Changes.{no_copy, headed, voided}
 use Rattle.cluster_model.specs.Granting.{asker}
 use Rattle.cluster_model.specs.After.{with_value, with_page, done, after, after_loss, after_miss}
@@ -38,13 +28,14 @@ use Rattle.cluster_model.specs.Copying.{copied_in, filled_with, next_sector, wit
 use Rattle.cluster_model.specs.Recovering.{slot_read, page_found, page_cleared, slot_recovered}
 use Rattle.cluster_model.specs.Table.{refusal}
 use Rattle.cluster_model.specs.Transfers.{Transfer, transfer_of}
-use Rattle.laws_roles.proofs.Parts.{covered_by, Ghost, part_of, ghost_after}
-use Rattle.laws_roles.proofs.WishGuards.{all_known}
-use Rattle.laws_roles.proofs.Ways.{copies, gathers, passes_over, Ways, none, one, more, voids, loses}
+use Rattle.laws_roles.proofs.Parts.{Ghost, part_of, ghost_after}
+use Rattle.laws_roles.proofs.Ways.{copies, gathers, Ways, none, one, more, voids, loses}
 use Rattle.laws_roles.proofs.Known.{Known}
 use Rattle.laws_roles.proofs.Rows.{grant_way, token_way, message_asked_way, join_way, load_way, up_way, leave_way, die_way, quit_by}
 use Rattle.laws_roles.proofs.OfferRows.{offer_way}
-use Rattle.laws_roles.proofs.RoundRows.{publish_way, take_way, process_way, resume_way, drop_way, finish_way}
+use Rattle.laws_roles.proofs.RoundRows.{publish_way, take_way, process_way, resume_way, drop_way}
+use Rattle.laws_roles.proofs.FinishRows.{finish_way}
+use Rattle.laws_roles.proofs.PassRows.{fill_covers, copy_covers, settle_covers, full_way, again_way, voided_not}
 
 abbrev pub is_super : Event → Bool
 is_super (events.WriteSuper n l) = true
@@ -60,47 +51,6 @@ is_failed o = false
 abbrev pub LoadsIt : Core → (ℕ → Option Says) → Event → Outcome → Type 0
 LoadsIt core sup (events.Load n l) o = (number : ℕ) (v : Sector) → o ≡ outcomes.Super number v → sup l ≡ says_in core.array l v.bytes
 LoadsIt core sup e o = Unit {0}
-
--- Passes.
-
-fill_covers : (p : Option Passing) (s : ℕ) (v : Sector) (l j : ℕ) → covered_by (option_map (λ x. filled x s v l) p) j ≡ true → covered_by p j ≡ true
-fill_covers None s v l j e = e
-fill_covers (Some p) s v l j e = e
-
-copy_covers : (p : Option Passing) (l j : ℕ) → covered_by (option_map (λ x. copied x l) p) j ≡ true → covered_by p j ≡ true
-copy_covers None l j e = e
-copy_covers (Some p) l j e = e
-
-settle_covers : (z : Sizes) (p : Option Passing) (b : Buffer) (j : ℕ) → covered_by (option_map (λ x. settled_at z x b) p) j ≡ true → covered_by p j ≡ true
-settle_covers z None b j e = e
-settle_covers z (Some p) b j e = e
-
-voided_not : (core : Core) (n : ℕ) → is_offered (with_at core.sender n senders.MessageHeld n) ≡ false
-voided_not core n = let e : (n == n) ≡ true = grind (arith, nat_tests) in rw e refl
-
-or_left : (a b : Bool) → a ≡ true → (a || b) ≡ true
-or_left a b e = grind arith
-
-or_right : (a b : Bool) → b ≡ true → (a || b) ≡ true
-or_right a b e = grind arith
-
-same_as : (f : ℕ → Bool) (l j : ℕ) → (j == l) ≡ true → f l ≡ true → f j ≡ true
-same_as f l j e w = let same : l ≡ j = grind (arith, nat_tests) in subst (λ x. f x ≡ true) same w
-
-full_way : (core : Core) → Known core → (sup : ℕ → Option Says) (g : Ghost) (n : ℕ) → first_of (pass_guards core n) ≡ None → Ways (part_of core sup g) (part_of (pass_full core n) sup g)
-full_way core k sup g n ok =
-    let a = (all_none (pass_guards core n) ok).1.1.1 in
-    let up = unless_none (is_up (core.state n)) _ a.0 in
-    let known = all_known core k n (refused_none Unacked (unacked_leg (core.view n)) a.1.1.0) in
-    one (passes_over n _ up (λ l e. known l) (λ l e. or_left (is_rebuilding ((core.view n).role l)) (is_again_of (core.adding n).addition l) e))
-
-again_way : (core : Core) → Known core → (sup : ℕ → Option Says) (g : Ghost) (n l : ℕ) → first_of (pass_again_guards core n l) ≡ None → Ways (part_of core sup g) (part_of (pass_again core n l) sup g)
-again_way core k sup g n l ok =
-    let a = (all_none (pass_again_guards core n l) ok).1.1.1 in
-    let up = unless_none (is_up (core.state n)) _ a.1.0 in
-    let known = all_known core k n (refused_none Unacked (unacked_leg (core.view n)) a.1.1.1.1.0) in
-    let again = unless_none (is_again_of (core.adding n).addition l) _ a.1.1.1.0 in
-    one (passes_over n _ up (λ j e. known j) (λ j e. or_right (is_rebuilding ((core.view n).role j)) (is_again_of (core.adding n).addition j) (same_as (is_again_of (core.adding n).addition) l j e again)))
 
 module _ (sup : ℕ → Option Says) (g : Ghost) where
   -- Of these the part knows nothing.

@@ -1,13 +1,11 @@
--- The ways of a round: it is published, taken, processed, resumed, dropped and finished.
-use Rattle.std.proofs.Common.{◌≡◌, ◌≢◌, inl, inr, ℕ, ◌≤◌, ◌==◌, ◌&&◌, Bool, true, false, not, if◌then◌else◌, List, ◌∷◌, Option, Some, None, refl, sym, ap, subst, ◌∙◌, arith}
-use Rattle.std.specs.Prelude.{is_some, is_none, option_map}
+-- The ways of a round: it is published, taken, processed, resumed and dropped.
+use Rattle.std.proofs.Common.{◌≡◌, inl, inr, ℕ, ◌≤◌, ◌&&◌, Bool, true, false, not, if◌then◌else◌, List, ◌∷◌, Option, Some, None, refl, sym, ap, subst, ◌∙◌, arith}
+use Rattle.std.specs.Prelude.{option_map}
 use Rattle.std.proofs.lemmas.Bool.{cases_lt}
-use Rattle.std.proofs.lemmas.Bool.Decides.{nat_tests}
-use Rattle.dlm_modes.specs.First.{first_such}
-use Rattle.dlm_modes.proofs.FirstLaws.{first_such_none, first_such_some}
+use Rattle.dlm_modes.proofs.FirstLaws.{first_such_none}
 use Rattle.dlm_modes.specs.Guards.{first_of, unless}
 use Rattle.dlm_modes.specs.Points.{with_at}
-use Rattle.mdc_types.specs.Roles.{role_of, is_working, is_written}
+use Rattle.mdc_types.specs.Roles.{role_of, is_written}
 use Rattle.mdc_types.specs.declared.events.Wish.{Wish}
 use Rattle.mdc_types.specs.declared.events.Wish.TheVariants as wishes
 use Rattle.mdc_types.specs.declared.refusals.Refusal.{Refusal}
@@ -23,8 +21,8 @@ use Rattle.cluster_msgs.specs.declared.msg.Body.TheVariants as bodies
 use Rattle.cluster_msgs.specs.declared.msg.Msg.{Msg}
 use Rattle.md_superblock.specs.Arrays.{Says}
 use Rattle.msg_rounds.specs.Locks.{message_res, message_processed, finished}
-use Rattle.msg_rounds.specs.Phases.{Receiving, is_idle, has_published, has_processed, may_receive}
-use Rattle.msg_rounds.specs.Refusals.{is_offered, is_granted, is_taken, is_pr, may_resume}
+use Rattle.msg_rounds.specs.Phases.{Receiving, is_idle, has_published, has_processed}
+use Rattle.msg_rounds.specs.Refusals.{is_offered, is_taken, is_pr, may_resume}
 use Rattle.msg_rounds.specs.declared.phases.SenderPhase.{SenderPhase}
 use Rattle.msg_rounds.specs.declared.phases.SenderPhase.TheVariants as senders
 use Rattle.msg_rounds.specs.declared.phases.ReceiverPhase.{ReceiverPhase}
@@ -32,22 +30,19 @@ use Rattle.msg_rounds.specs.declared.phases.ReceiverPhase.TheVariants as receive
 use Rattle.leg_failure.specs.Views.{acknowledged}
 use Rattle.cluster_model.specs.State.{Core, Offer, sizes}
 use Rattle.cluster_model.specs.Guards.{is_out, no_node, not_fenced, of_live}
-use Rattle.cluster_model.specs.Phases.{is_in, is_up, is_joining, is_metadata, sender_is, receiver_is}
+use Rattle.cluster_model.specs.Phases.{is_up, is_metadata, sender_is, receiver_is}
 use Rattle.cluster_model.specs.Publishing.{publish_guards, offer_is_due, wish_is_due, unwritten_leg, publish, publish_offer, publish_wish, block_of, message_of}
 use Rattle.cluster_model.specs.Changes.{sender_now, device_unlocked, window_closed}
 use Rattle.resync_worker.specs.Copying.{Passing, restarted}
-use Rattle.suspend_ranges.specs.Suspended.{entry_of}
-use Rattle.cluster_model.specs.Finishing.{adding_after, finish_guards, finish, finish_offer, finish_wish, round_over}
 use Rattle.cluster_model.specs.Receiving.{take_guards, take, called_by, published_message, resume_guards, resume, receiver_idle, receiver_now, told_state, is_state_body, drop_guards, drop_message}
 use Rattle.cluster_model.specs.Processing.{processed_guards, processed, do_message, do_body, draining_by}
-use Rattle.laws_locks.specs.Rounded.{has_token, stands, wish_fits, offer_fits, offering}
+use Rattle.laws_locks.specs.Rounded.{stands}
 use Rattle.laws_sound.proofs.Guarded.{all_none, first_none, unless_none, refused_none}
 use Rattle.laws_sound.proofs.RoundFacts.{Standing, standing, no_offer, offered_stands, published_stands, is_taken_now, busy_receives, receives_silent}
 use Rattle.msg_rounds.specs.Locks as round_locks
-use Rattle.laws_roles.proofs.Parts.{Part, Ghost, part_of, waits, changes_super, offered_role, offered_size, is_written_to, heard_role, heard_size, body_role, body_size, first_working, with_finish, finished_by, needs_known, covered_by, is_loaded}
-use Rattle.laws_roles.proofs.Ways.{Way, Ways, one, more, publishes, takes, hears, passes, resumes, rests, finishes, idles, announces, copies, goes, Hearing, Hearers, Whole, AreEight}
+use Rattle.laws_roles.proofs.Parts.{Part, Ghost, part_of, waits, changes_super, offered_role, offered_size, is_written_to, heard_role, heard_size, body_role, body_size, covered_by}
+use Rattle.laws_roles.proofs.Ways.{Way, Ways, one, more, publishes, takes, hears, passes, resumes, rests, copies, Hearing, AreEight}
 use Rattle.laws_roles.proofs.Known.{Known, state_body, state_role, state_size, are_eight}
-use Rattle.laws_roles.proofs.Rows.{with_twice}
 
 after_live : (core : Core) (n : ℕ) (gs : List (Option Refusal)) → first_of (of_live core n gs) ≡ None → first_of gs ≡ None
 after_live core n gs e =
@@ -75,16 +70,6 @@ leg_written o legs l spare le all e = elim (cases_lt l 8) [
   | inr past ↦ absurd (spare_unwritten (o.role l) (spare l (omega (arith, past, le))) e)
 ]
 
--- some leg works, so the first does
-works_found : (role : ℕ → Role) (x : Option ℕ) → first_such (λ l. is_working (role l)) 0 8 ≡ x → is_some x ≡ true → is_working (role (first_working role)) ≡ true
-works_found role None e some = cc
-works_found role (Some l) e some = let p = (first_such_some (λ j. is_working (role j)) 0 8 l e).passes in rw e p
-
-not_joining : (s : NodeState) → is_in s ≡ true → is_joining s ≡ false
-not_joining states.Loaded e = refl
-not_joining states.Up e = refl
-not_joining s e = cc
-
 processed_now : (r : ReceiverPhase) → may_resume r ≡ true → has_processed r ≡ true
 processed_now receivers.Waiting e = refl
 processed_now receivers.Ready e = refl
@@ -98,20 +83,6 @@ not_late r heard s other = grind arith
 
 taken_not_late : (r : Receiving) (heard : Option Msg) (s : SenderPhase) → r.phase ≡ receivers.Taken → waits r heard s ≡ false
 taken_not_late r heard s e = grind arith
-
-loaded_is : (s : NodeState) → is_loaded s ≡ true → s ≡ states.Loaded
-loaded_is states.Loaded e = refl
-loaded_is s e = cc
-
-abbrev up_offers : NodeState → Wish → Bool
-up_offers s w = wish_fits s w
-
--- a loaded node's rounds change the superblock
-is_up_by : (s : NodeState) (w : Wish) → is_metadata w ≡ false → needs_known w ≡ true → is_in s ≡ true → up_offers s w ≡ true → is_up s ≡ true
-is_up_by states.Up w other known up fits = refl
-is_up_by states.Loaded wishes.Meta other known up fits = cc
-is_up_by states.Loaded w other known up fits = cc
-is_up_by s w other known up fits = cc
 
 -- who receives is up
 up_when : (s : NodeState) (r : ReceiverPhase) → r ≡ receivers.Taken → (is_up s ≡ false → r ≡ receivers.Idle) → is_up s ≡ true
@@ -129,10 +100,10 @@ module _ (core : Core) (k : Known core) (sup : ℕ → Option Says) (g : Ghost) 
   abbrev pub Here : Part
   Here = part_of core sup g
 
-  its_offer : (n : ℕ) → stands (core.sender n) ≡ true → Standing (core.state n) (core.offer n)
+  pub its_offer : (n : ℕ) → stands (core.sender n) ≡ true → Standing (core.state n) (core.offer n)
   its_offer n up = standing (core.state n) (core.sender n) (core.offer n) (k.rounded.offering.offers n) up
 
-  eight_of : (n : ℕ) (o : Offer) → core.offer n ≡ Some o → AreEight o.role
+  pub eight_of : (n : ℕ) (o : Offer) → core.offer n ≡ Some o → AreEight o.role
   eight_of n o is = are_eight (sizes core) o.role k.range.legs.sizes_fit (k.range.legs.offers n o is).roles
 
   -- Publishing.
@@ -223,99 +194,3 @@ module _ (core : Core) (k : Known core) (sup : ℕ → Option Says) (g : Ghost) 
   drop_way n ok =
       let a = (all_none (drop_guards core n) ok).1.1.1 in
       one (rests n (taken_not_late (core.receiver n) (core.heard n) (core.sender (core.receiver n).from) (is_taken_now (core.receiver n).phase (unless_none (is_taken (core.receiver n).phase) _ a.0))))
-
-  -- Finishing.
-
-  says_there : (n m : ℕ) (o : Offer) → core.offer n ≡ Some o → has_published (core.sender n) ≡ true → is_idle (core.receiver m).phase ≡ false → core.heard m ≡ Some (message_of core n o)
-  says_there n m o is p b = k.read.heard m b ∙ k.read.published n o p is
-
-  hearers : (n : ℕ) (o : Offer) → core.offer n ≡ Some o → has_published (core.sender n) ≡ true → Hearers Here n
-  hearers n o is p = record {
-    from = λ m b. k.heard.from n m p b;
-    gone = λ m b. k.heard.gone n m p b;
-    told = λ m b. ap told_state (says_there n m o is p b) ∙ state_body core o o.wish ∙ sym (ap changes_super is);
-    role = λ m l b meta. ap (λ x. heard_role x l) (says_there n m o is p b) ∙ state_role core o o.wish l (sym (ap changes_super is) ∙ meta) ∙ eight_of n o is l ∙ sym (ap (λ x. offered_role x l) is);
-    size = λ m b meta. ap heard_size (says_there n m o is p b) ∙ state_size core o o.wish (sym (ap changes_super is) ∙ meta) ∙ sym (ap offered_size is);
-  }
-
-  -- nobody else has an offer
-  pub others_none : (n : ℕ) → has_token (core.sender n) ≡ true → (m : ℕ) → m ≢ n → core.offer m ≡ None
-  others_none n has m ne = no_offer (core.state m) (core.sender m) (core.offer m) (k.rounded.offering.offers m) (by (stands (core.sender m)) refl)
-    where
-      holds : (s : SenderPhase) → stands s ≡ true → has_token s ≡ true
-      holds senders.Offered e = refl
-      holds senders.Published e = refl
-      holds senders.Granted e = refl
-      holds s e = cc
-
-      by : (b : Bool) → stands (core.sender m) ≡ b → stands (core.sender m) ≡ false
-      by false e = e
-      by true e = absurd (ne (k.rounded.phased.alone m n (holds (core.sender m) e) has))
-
-  -- who is loaded has the token
-  pub loaded_alone : (n : ℕ) → has_token (core.sender n) ≡ true → (m : ℕ) → is_loaded (core.state m) ≡ true → m ≡ n
-  loaded_alone n has m e = k.rounded.phased.alone m n (k.rounded.phased.loaded m (loaded_is (core.state m) e)) has
-
-  -- the offer fits its node's state
-  its_fit : (n : ℕ) (o : Offer) (w : Wish) → o.wish ≡ w → core.offer n ≡ Some o → core.sender n ≡ senders.Granted → up_offers (core.state n) w ≡ true
-  its_fit n o w e is s =
-      ap (up_offers (core.state n)) (sym e)
-      ∙ subst (λ x. (if stands x then offer_fits (core.state n) (Some o) else is_none (Some o)) ≡ true) s
-      (subst (λ x. offering (core.state n) (core.sender n) x ≡ true) is (k.rounded.offering.offers n))
-
-  granted_is : (s : SenderPhase) → is_granted s ≡ true → s ≡ senders.Granted
-  granted_is senders.Granted e = refl
-  granted_is s e = cc
-
-  whole : (n : ℕ) (o : Offer) → core.offer n ≡ Some o → is_metadata o.wish ≡ true → core.sender n ≡ senders.Granted → is_in (core.state n) ≡ true → Whole Here n o
-  whole n o is meta s up = record {
-    offer = is;
-    meta = meta;
-    others = others_none n (ap has_token s);
-    inside = up;
-    published = ap has_published s;
-    idle = ap is_idle (k.rounded.phased.sending n (ap may_receive s));
-    eight = eight_of n o is;
-    works = works_found o.role (first_such (λ l. is_working (o.role l)) 0 8) refl (k.leg.offered n o is);
-    hearers = hearers n o is (ap has_published s);
-    loaded = λ m e. loaded_alone n (ap has_token s) m e;
-    processed = λ m ne inside. k.rounded.phased.processed n m s ne inside;
-  }
-
-  -- a round that doesn't change the superblock
-  idle_told : (n : ℕ) (o : Offer) → core.offer n ≡ Some o → is_metadata o.wish ≡ false → (m : ℕ) → has_published (core.sender n) ≡ true → is_idle (core.receiver m).phase ≡ false → told_state (core.heard m) ≡ false
-  idle_told n o is other m p b = ap told_state (says_there n m o is p b) ∙ state_body core o o.wish ∙ other
-
-  idle_way : (n : ℕ) (o : Offer) → core.offer n ≡ Some o → is_metadata o.wish ≡ false → is_in (core.state n) ≡ true
-      → Way Here (record Here { sender = with_at core.sender n senders.Idle; offer = with_at core.offer n None })
-  idle_way n o is other up = idles n (not_joining (core.state n) up) (idle_told n o is other)
-
-  -- what the finish of a round about a device makes of the addition
-  device_way : (n : ℕ) (o : Offer) (w : Wish) → o.wish ≡ w → needs_known w ≡ true → is_metadata w ≡ false → core.offer n ≡ Some o → is_in (core.state n) ≡ true → up_offers (core.state n) w ≡ true
-      → is_idle (core.receiver n).phase ≡ true
-      → Ways Here (record Here { sender = with_at core.sender n senders.Idle; offer = with_at core.offer n None; adding = with_at core.adding n (adding_after (core.adding n) w) })
-  device_way n o w e known other is up fits idle =
-      subst (λ x. Ways Here (record Here { sender = with_at core.sender n senders.Idle; offer = with_at core.offer n None; adding = with_at core.adding n (adding_after (core.adding n) x) })) e
-      (more (one (announces n o is (ap needs_known e ∙ known) (ap is_metadata e ∙ other) (is_up_by (core.state n) w other known up fits) idle))
-      (idles n (not_joining (core.state n) up) (idle_told n o is (ap is_metadata e ∙ other))))
-
-  finish_by : (n : ℕ) (o : Offer) (w : Wish) → o.wish ≡ w → core.offer n ≡ Some o → core.sender n ≡ senders.Granted → is_in (core.state n) ≡ true
-      → Ways Here (part_of (finish_wish (round_over core n) n o w) sup (if is_metadata w then with_finish g o (core.adding n).addition else g))
-  finish_by n o (wishes.Range r) w is s up = more (one (idle_way n o is (ap is_metadata w) up)) (copies n (record (core.copy n) { window = entry_of r }) (λ l e. e))
-  finish_by n o (wishes.NewDisk l) w is s up = device_way n o (wishes.NewDisk l) w refl refl is up (its_fit n o (wishes.NewDisk l) w is s) (ap is_idle (k.rounded.phased.sending n (ap may_receive s)))
-  finish_by n o (wishes.Remove l) w is s up = device_way n o (wishes.Remove l) w refl refl is up (its_fit n o (wishes.Remove l) w is s) (ap is_idle (k.rounded.phased.sending n (ap may_receive s)))
-  finish_by n o (wishes.ReAdd l) w is s up = device_way n o (wishes.ReAdd l) w refl refl is up (its_fit n o (wishes.ReAdd l) w is s) (ap is_idle (k.rounded.phased.sending n (ap may_receive s)))
-  finish_by n o wishes.Unclean w is s up =
-      subst (λ x. Ways Here (record (part_of (finish_wish (round_over core n) n o wishes.Unclean) sup g) { sender = x })) (with_twice core.sender n senders.Idle)
-      (more (one (idle_way n o is (ap is_metadata w) up)) (goes n (idle_silent n) (ap is_idle (k.rounded.phased.sending n (ap may_receive s)))))
-    where
-      idle_silent : (n : ℕ) → has_published (with_at core.sender n senders.Idle n) ≡ false
-      idle_silent n = let e : (n == n) ≡ true = grind (arith, nat_tests) in rw e refl
-  finish_by n o x w is s up = one (finishes n o (whole n o is (ap is_metadata w) s up))
-
-  pub finish_way : (n : ℕ) → first_of (finish_guards core n) ≡ None → Ways Here (part_of (finish core n) sup (finished_by g (core.offer n) (core.adding n).addition))
-  finish_way n ok =
-      let a = (all_none (finish_guards core n) ok).1.1.1 in
-      let granted = granted_is (core.sender n) (unless_none (is_granted (core.sender n)) _ a.0) in
-      let s = its_offer n (ap stands granted) in
-      subst (λ x. Ways Here (part_of (finish_offer core n x) sup (finished_by g x (core.adding n).addition))) (sym s.is) (finish_by n s.offer s.offer.wish refl s.is granted s.up)

@@ -31,7 +31,7 @@ use Rattle.laws_sound.proofs.RoundFacts.{standing, offered_stands}
 use Rattle.laws_roles.proofs.Parts.{Part, Ghost, part_of, supers, ghost_after}
 use Rattle.laws_roles.proofs.Ways.{Way, Ways, none, one, more, writes, leaves, Writing}
 use Rattle.laws_roles.proofs.Known.{Known, are_eight}
-use Rattle.laws_roles.proofs.RoundRows.{others_none, loaded_alone}
+use Rattle.laws_roles.proofs.FinishRows.{others_none, loaded_alone}
 use Rattle.laws_roles.proofs.OtherRows.{is_super, is_failed, fail_way, event_way}
 use Rattle.laws_roles.proofs.Standing.{Bytes, super_stands, supers_stay, has_transfer, loads_it}
 

@@ -74,6 +74,11 @@ pub record CalledBy (state : State) (l : ℕ) : Type 0 where
   pub inside : is_in (state.core.state node) ≡ true
   pub role : (state.core.view node).role l ≡ Working
 
+-- the node writes the leg, or the others don't know yet what became of the leg there
+abbrev pub WrittenOrUnacked : State → ℕ → ℕ → Type 0
+WrittenOrUnacked state n l =
+    (is_target (state.core.view n) l ≡ true) ⊎ (is_unacked (state.core.view n) l ≡ true)
+
 -- what the nodes make of the roles that were agreed on last
 pub record RolesHold (agreed : Agreed) (state : State) : Type 0 where
   -- a leg that a node or a current superblock calls working is one that these roles want written
@@ -81,11 +86,11 @@ pub record RolesHold (agreed : Agreed) (state : State) : Type 0 where
       → is_written (agreed.role l) ≡ true
   -- a leg that may be read is a target of each up node, or unacked there
   pub written : (n l : ℕ) → state.core.state n ≡ Up → Trusted state l
-      → (is_target (state.core.view n) l ≡ true) ⊎ (is_unacked (state.core.view n) l ≡ true)
+      → WrittenOrUnacked state n l
   -- so is a leg that a node's pass covers
   pub covered : (n m l : ℕ) (pass : Passing) → state.core.state n ≡ Up
       → (state.core.copy m).pass ≡ Some pass → pass.covered l ≡ true
-      → (is_target (state.core.view n) l ≡ true) ⊎ (is_unacked (state.core.view n) l ≡ true)
+      → WrittenOrUnacked state n l
   -- an up node gives a leg that isn't unacked there the role that these give it, and has these roles
   -- where nothing is unacked
   pub roles : (n l : ℕ) → state.core.state n ≡ Up → is_unacked (state.core.view n) l ≡ false
