@@ -19,9 +19,14 @@ use Rattle.cluster_model.specs.Opening.{Origin, array_of}
 use Rattle.cluster_model.specs.Contents.{Opens}
 use Rattle.cluster_model.specs.Run.{Run}
 use Rattle.cluster_model.specs.Served.{Served, Current, CalledIn, Trusted, Shut}
-use Rattle.cluster_model.specs.Size.{Size, WasSure}
+use Rattle.cluster_model.specs.Size.{Size, WasSure, NamesSure}
 use Rattle.cluster_model.specs.Stored.{super_on}
 use Rattle.laws_sound.proofs.Runs.{runs_keep_a_leg}
+use Rattle.std.proofs.lemmas.Bool.{ltb-true}
+use Rattle.cluster_model.specs.Reads.{r_guards}
+use Rattle.cluster_model.specs.Writes.{w_guards}
+use Rattle.cluster_model.specs.Table.{refusal}
+use Rattle.laws_sound.proofs.Guarded.{all_none, unless_none}
 use Rattle.laws_sound.proofs.Supers.{says_fit}
 use Rattle.laws_locks.specs.Following.{core_after}
 use Rattle.laws_roles.specs.Agreed.{Agreed, agreed_on, agreed_after, agreed_in}
@@ -193,6 +198,12 @@ module _ (o : Origin) (start end : State) (past : List Entry) (opens : Opens o s
         omega (arith, a, b, c);
   }
 
+-- a request names a sector that its node is sure of
+names_sure : (core : Core) (e : Event) → refusal core e ≡ None → NamesSure core e
+names_sure core (events.AskWrite n s v) ok = ltb-true s (core.view n).sure_size (unless_none _ _ (all_none (w_guards core n s) ok).1.1.1.1.1.0)
+names_sure core (events.AskRead n s) ok = ltb-true s (core.view n).sure_size (unless_none _ _ (all_none (r_guards core n s) ok).1.1.1.1.1.0)
+names_sure core e ok = tt
+
 -- The laws.
 
 pub runs_are_shut : RunsAreShut
@@ -205,7 +216,10 @@ pub runs_have_superblocks : RunsHaveSuperblocks
 runs_have_superblocks o start end past opens tells run = superblocks_here o start end past opens tells run
 
 pub runs_keep_the_size : RunsKeepTheSize
-runs_keep_the_size o start end past opens tells run = size_here o start end past opens tells run
+runs_keep_the_size o start end past opens tells run = record {
+  size = size_here o start end past opens tells run;
+  requests = names_sure end.core;
+}
 
 pub runs_fit_additions : RunsFitAdditions
 runs_fit_additions o start end past opens tells run = additions_here o start end past opens tells run

@@ -1,6 +1,7 @@
 -- Who may be read, along each run over legs that tell their contents.
 use Rattle.std.specs.Prelude.{◌≡◌, ◌≢◌, ◌⊎◌, ℕ, ◌<◌, true, false, is_some, List, Some, None}
 use Rattle.mdc_types.specs.Roles.{role_of, is_written, some_works}
+use Rattle.mdc_types.specs.declared.events.Event.{Event}
 use Rattle.mdc_types.specs.declared.outcomes.Entry.{Entry}
 use Rattle.mdc_types.specs.declared.roles.NodeState.TheVariants.{Loaded, Up}
 use Rattle.mdc_types.specs.declared.roles.Role.TheVariants.{Working, Rebuilding, Faulty, Spare}
@@ -15,8 +16,9 @@ use Rattle.cluster_model.specs.Contents.{Opens, AllTell}
 use Rattle.cluster_model.specs.Opening.{Origin}
 use Rattle.cluster_model.specs.Run.{Run}
 use Rattle.cluster_model.specs.Served.{Served, Current, CalledIn, Trusted, Shut}
-use Rattle.cluster_model.specs.Size.{Size}
+use Rattle.cluster_model.specs.Size.{Size, NamesSure}
 use Rattle.cluster_model.specs.Stored.{super_on}
+use Rattle.cluster_model.specs.Table.{refusal}
 use Rattle.laws_roles.specs.Agreed.{Agreed, agreed_in}
 
 -- the legs tell what they have, and the array's name and uuid are bytes
@@ -50,9 +52,14 @@ pub record Superblocks (state : State) : Type 0 where
 abbrev pub RunsHaveSuperblocks : Type 0
 RunsHaveSuperblocks = Always (λ o start past end. Superblocks end)
 
--- no node falls behind a size that an up node was sure of, nor does a current superblock
+-- No node falls behind a size that an up node was sure of, nor does the superblock of the last whole
+-- round; and requests name sectors that their node is sure of.
+pub record SizeHolds (start : State) (past : List Entry) (end : State) : Type 0 where
+  pub size : Size start past end
+  pub requests : (e : Event) → refusal end.core e ≡ None → NamesSure end.core e
+
 abbrev pub RunsKeepTheSize : Type 0
-RunsKeepTheSize = Always (λ o start past end. Size start past end)
+RunsKeepTheSize = Always (λ o start past end. SizeHolds start past end)
 
 -- A leg is left to read from: to each node that is in, by the roles of each offer, and by those of
 -- each superblock of the array.

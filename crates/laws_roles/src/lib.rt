@@ -28,8 +28,9 @@ pub fn runs_have_superblocks()
     ensures { RunsHaveSuperblocks }
 {}
 
-/// No node that is in, and no current superblock, takes the array to be smaller than an up node was
-/// ever sure that it is.
+/// No node that is in, and no superblock of the last whole round, takes the array to be smaller than
+/// an up node was ever sure that it is; and each request that is accepted names a sector that its
+/// node is sure of.
 pub fn runs_keep_the_size()
     ensures { RunsKeepTheSize }
 {}
