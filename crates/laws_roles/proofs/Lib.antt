@@ -32,3 +32,5 @@ pub mod First
 pub mod Runs
 pub mod InState
 pub mod Promises
+pub mod Headers
+mod Examples
