@@ -4,9 +4,10 @@
 # edit what refuses it.
 set -e
 top=$(cd "$(dirname "$0")/.." && pwd)
-work=$(mktemp -d)
+work=$(mktemp -d "$top/../mutants.XXXXXX")
 trap 'rm -rf "$work"' EXIT
-cp -a "$top/." "$work"
+# what is kept of proofs is large: linked, not copied
+cp -al "$top/." "$work"
 for edits in "$top"/mutants/*/; do
     crate=$(basename "$edits")
     rm -f "$work/crates/$crate/must-fail/"*.edit
