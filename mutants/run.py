@@ -1,8 +1,10 @@
 #!/usr/bin/env python3
-"""Wrong rows of the machine, as the laws see them. A law must refuse each: `docs/PROOFS.md` has the table.
+"""Wrong rows of the machine, as the laws see them. A law must refuse each: `docs/PROOFS.md` has
+the table.
 
 No part of `rt ci`. It works on a copy of the repository, beside it, and prints for each edit of
-mutants/CRATE the facts that it breaks. The crates below CRATE must be proved. `run.py NAME` does that edit alone.
+mutants/CRATE the facts that it breaks. The crates below CRATE must be proved. `run.py NAME` does
+that edit alone.
 """
 import os
 import re
@@ -29,7 +31,8 @@ def applied(crate: Path, edit: Path) -> None:
 
 def broken(crate: Path) -> list[str]:
     """The facts of the files `..Steps` that aren't kept any more."""
-    out = subprocess.run(["rt", "check", "--jobs", "1", "--allow-holes"], cwd=crate, capture_output=True, text=True)
+    check = ["rt", "check", "--jobs", "1", "--allow-holes"]
+    out = subprocess.run(check, cwd=crate, capture_output=True, text=True)
     return re.findall(r"proofs/\w+Steps\.antt:\S+ error: `(\w+)`", out.stdout + out.stderr)
 
 
@@ -42,7 +45,8 @@ def main() -> None:
             name = edit.parent.name
             copy = work / edit.stem
             # what is kept of the proofs below is large: linked, not copied
-            shutil.copytree(TOP, copy, copy_function=os.link, ignore=shutil.ignore_patterns(name, ".git", "mutants"))
+            skip = shutil.ignore_patterns(name, ".git", "mutants")
+            shutil.copytree(TOP, copy, copy_function=os.link, ignore=skip)
             shutil.copytree(TOP / "crates" / name, copy / "crates" / name)
             applied(copy / "crates" / name, edit)
             facts = broken(copy / "crates" / name)

@@ -14,8 +14,9 @@ pub fn runs_are_shut()
 
 /// At each place of each run, of the roles of the last whole round of the superblock: each leg that a
 /// node which is in, or a current superblock, calls working is one that they want written. A leg that
-/// may be read is a target of each up node, or unacked there. An up node gives a leg that isn't
-/// unacked there the role that they give it, and has these roles where nothing is unacked.
+/// may be read, or that a pass covers, is a target of each up node, or unacked there. An up node gives
+/// a leg that isn't unacked there the role that they give it, and has these roles where nothing is
+/// unacked.
 pub fn runs_have_roles()
     ensures { RunsHaveRoles }
 {}
