@@ -50,7 +50,7 @@ def main() -> None:
             shutil.copytree(TOP / "crates" / name, copy / "crates" / name)
             applied(copy / "crates" / name, edit)
             facts = broken(copy / "crates" / name)
-            print(f"{edit.stem}: {'breaks ' + ', '.join(facts) if facts else 'breaks nothing'}", flush=True)
+            print(f"{edit.stem}: breaks {', '.join(facts) or 'nothing'}", flush=True)
             shutil.rmtree(copy)
     finally:
         shutil.rmtree(work, ignore_errors=True)

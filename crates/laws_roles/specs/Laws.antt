@@ -52,8 +52,8 @@ pub record Superblocks (state : State) : Type 0 where
 abbrev pub RunsHaveSuperblocks : Type 0
 RunsHaveSuperblocks = Always (λ o start past end. Superblocks end)
 
--- No node falls behind a size that an up node was sure of, nor does the superblock of the last whole
--- round; and requests name sectors that their node is sure of.
+-- No node falls behind a size that an up node was sure of, nor does the superblock of the last
+-- whole round; and requests name sectors that their node is sure of.
 pub record SizeHolds (start : State) (past : List Entry) (end : State) : Type 0 where
   pub size : Size start past end
   pub requests : (e : Event) → refusal end.core e ≡ None → NamesSure end.core e
@@ -98,8 +98,8 @@ pub record RolesHold (agreed : Agreed) (state : State) : Type 0 where
   pub covered : (n m l : ℕ) (pass : Passing) → state.core.state n ≡ Up
       → (state.core.copy m).pass ≡ Some pass → pass.covered l ≡ true
       → WrittenOrUnacked state n l
-  -- an up node gives a leg that isn't unacked there the role that these give it, and has these roles
-  -- where nothing is unacked
+  -- an up node gives a leg that isn't unacked there the role that these give it, and has these
+  -- roles where nothing is unacked
   pub roles : (n l : ℕ) → state.core.state n ≡ Up → is_unacked (state.core.view n) l ≡ false
       → (state.core.view n).role l ≡ agreed.role l
   pub all_roles : (n l : ℕ) → state.core.state n ≡ Up → unacked_leg (state.core.view n) ≡ None
