@@ -1,0 +1,28 @@
+-- Which turn a seat is at.
+use Rattle.std.specs.Prelude.{◌≡◌, ℕ, List, Some, sum_by, length, All, Any}
+use Rattle.turn_table.specs.Lists.{BeginsWith, own}
+use Rattle.turn_table.specs.Seats.{seen, numbers, number_of, mine}
+use Rattle.turn_table.specs.declared.stories.Story.{Ghosts}
+use Rattle.turn_table.specs.declared.seats.Seat.{Seat}
+use Rattle.turn_table.specs.declared.seats.Note.{Note}
+use Rattle.turn_table.specs.declared.turns.Turn.{Turn}
+
+module _ {T I O : Type 0} {g : Ghosts T I O} where
+  -- the origin of the value that it was opened with
+  abbrev pub origin_of : Turn T I O g → O
+  origin_of turn = g.origin turn.board.shared.key.value.value
+
+  -- how many numbers it was opened with
+  abbrev pub seats_of : Turn T I O g → ℕ
+  seats_of turn = turn.board.shared.key.seats
+
+  abbrev pub IsSeatOf : Turn T I O g → Seat T I O g → Type 0
+  IsSeatOf turn seat = (seat.place.table_id ≡ turn.board.shared.table_id)
+      × (seat.place.me.0.origin ≡ Some (origin_of turn)) × (seat.place.me.0.seats ≡ seats_of turn)
+
+  abbrev pub IsNoteOf : Turn T I O g → Note T I O g → Type 0
+  IsNoteOf turn note = note.place.table_id ≡ turn.board.shared.table_id
+
+  -- how many numbers the seats have together
+  abbrev pub all_numbers : List (Seat T I O g) → ℕ
+  all_numbers seats = sum_by (λ s. length (numbers s)) seats

@@ -1,0 +1,221 @@
+use crate::plays::{Copied, Count, Deal, Free, Learn, Take, Try};
+use crate::seats::{Busy, Note, OpenEnd, Seat};
+use crate::stories::{Act, Story};
+use crate::views::{Board, Opening, Place, Top};
+use atomic_table::{Refused, Table};
+use std::alloc::{AllocFailed, Global};
+use std::snapshot::Snapshot;
+use std::sync::Wait;
+use std::thread;
+
+ghost use Rattle.std.specs.Prelude.{◌≡◌, ◌≢◌, ℕ, ◌+◌, ◌<◌, ◌≤◌, List, [], ◌∷◌, ◌++◌, length, All, Any, Bool, MatchBool, MatchResult, IfOk, IfErr, IsOk, Some, IsTrue, true};
+ghost use Rattle.turn_table.specs.Lists.{BeginsWith, longer, own, from, last_of};
+
+/// One value that threads take in turn. Each turn sees what all earlier turns left.
+#[derive(Drop)]
+pub struct Turn<T: Story> {
+    board: Board<T>,
+    ghost sized: { (board.shared.table_id.words ≡ 2) × (board.shared.table_id.slots ≡ 1) },
+}
+
+impl<T: Story> Turn<T> {
+    ghost use Rattle.turn_table.specs.Seats.{seen, numbers, number_of, mine, words, told_by, Keeps, Acted};
+    ghost use Rattle.turn_table.specs.Turns.{origin_of, seats_of, IsSeatOf, IsNoteOf, all_numbers};
+
+    /// Opens a turn over a value with no entries, for so many numbers, and gives the seat that has them all.
+    pub fn open(alloc: Global, value: T, seats: u32) -> Result<(Turn<T>, Seat<T>), OpenEnd<T>>
+        requires empty { T.entries value ≡ [] }
+        requires some { 0 < seats }
+        ensures turn { IfOk result (λ r. (origin_of r.0 ≡ T.origin value) × (seats_of r.0 ≡ seats)) }
+        ensures seat { IfOk result (λ r. IsSeatOf r.0 r.1 × (numbers r.1 ≡ from 0 seats) × (seen r.1 ≡ [])) }
+        ensures err { IfErr result (λ e. e.value ≡ value) }
+    {
+        let about = Opening {
+            seats,
+            value: Snapshot::of(&value),
+        };
+        match Table::new(alloc, &[0, 0], one_slot(alloc, value)?, &about) {
+            Ok((board, place)) => Ok((
+                Turn { board },
+                Seat {
+                    place,
+                    first: 0,
+                    count: seats,
+                },
+            )),
+            Err(refused) => {
+                let Refused { slots } = refused;
+                Err(OpenEnd {
+                    value: only(slots),
+                })
+            }
+        }
+    }
+
+    /// Gives the last of the seat's numbers to a new seat, which has seen the same.
+    pub fn split(&self, seat: Seat<T>) -> (Seat<T>, Seat<T>)
+        requires seat { IsSeatOf self.now seat }
+        requires two { 2 ≤ length (numbers seat) }
+        ensures seats { IsSeatOf self.now result.0 × IsSeatOf self.now result.1 }
+        ensures numbers { numbers seat ≡ numbers result.0 ++ numbers result.1 }
+        ensures one { length (numbers result.1) ≡ 1 }
+        ensures first { number_of result.0 ≡ number_of seat }
+        ensures last { number_of result.1 ≡ last_of (numbers seat) }
+        ensures seen { (seen result.0 ≡ seen seat) × (seen result.1 ≡ seen seat) }
+        ensures new { mine result.1 ≡ [] }
+    {
+        let (first, count) = (seat.first, seat.count);
+        let mut place = seat.into_place();
+        let last = self.board.shared.split_seat::<Deal>(&mut place);
+        (
+            Seat {
+                place,
+                first,
+                count: count - 1,
+            },
+            Seat {
+                place: last,
+                first: first + (count - 1),
+                count: 1,
+            },
+        )
+    }
+
+    /// A note of what the seat has seen.
+    pub fn note(&self, seat: &mut Seat<T>) -> Note<T>
+        requires { IsSeatOf self.now seat.old }
+        ensures seat { IsSeatOf self.now seat.new × Keeps seat.old seat.new }
+        ensures note { IsNoteOf self.now result × (told_by result ≡ seen seat.old) }
+    {
+        Note {
+            place: self.board.shared.split_seat::<Copied>(&mut seat.place),
+        }
+    }
+
+    /// Takes in what a note tells: the seat has then seen the longer of the two lists, which begins with both.
+    pub fn hear(&self, seat: &mut Seat<T>, note: Note<T>)
+        requires seat { IsSeatOf self.now seat.old }
+        requires note { IsNoteOf self.now note }
+        ensures seat { IsSeatOf self.now seat.new × (numbers seat.new ≡ numbers seat.old) }
+        ensures seen { seen seat.new ≡ longer (seen seat.old) (told_by note) }
+        ensures old { BeginsWith (seen seat.new) (seen seat.old) }
+        ensures told { BeginsWith (seen seat.new) (told_by note) }
+        ensures mine { mine seat.new ≡ mine seat.old }
+    {
+        self.board
+            .shared
+            .join_seat::<Take>(&mut seat.place, note.into_place());
+        self.board.shared.load::<Learn>(&mut seat.place, 0);
+    }
+
+    /// Tries once to take the turn, and does the act in it.
+    pub fn try_act<A: Act<T>>(&self, seat: &mut Seat<T>, act: &mut A) -> Result<A::Reply, Busy>
+        requires { IsSeatOf self.now seat.old }
+        ensures seat { IsSeatOf self.now seat.new × (numbers seat.new ≡ numbers seat.old) }
+        ensures acted { IfOk result (λ reply.
+            Acted A.relation A.adds (origin_of self.now) act.old act.new seat.old seat.new reply) }
+        ensures free { IfOk result (λ _. words seat.new ≡ words seat.old ++ 0 ∷ []) }
+        ensures busy { IfErr result (λ e. words seat.new ≡ words seat.old ++ e.word ∷ []) }
+        ensures taken { IfErr result (λ e. (e.word ≢ 0) × (e.word ≢ number_of seat.old + 1)) }
+        ensures same { IfErr result (λ _. (act.new ≡ act.old) × (seen seat.new ≡ seen seat.old)) }
+        ensures alone { length (numbers seat.old) ≡ seats_of self.now → IsOk result }
+    {
+        let own = u64::from(seat.first) + 1;
+        let found = self
+            .board
+            .shared
+            .compare_exchange::<Try>(&mut seat.place, 1, 0, own);
+        if found != 0 {
+            return Err(Busy { word: found });
+        }
+        let first = seat.first;
+        let (reply, grown) = run_here(&self.board.shared, &mut seat.place, act, first);
+        if grown {
+            self.board.shared.fetch_add::<Count>(&mut seat.place, 0, 1);
+        }
+        self.board.shared.swap::<Free>(&mut seat.place, 1, 0);
+        Ok(reply)
+    }
+
+    /// Waits for the turn, and does the act in it.
+    pub fn act<A: Act<T>, R: Wait>(&self, rt: &R, seat: &mut Seat<T>, act: &mut A) -> A::Reply
+        requires { IsSeatOf self.now seat.old }
+        ensures seat { IsSeatOf self.now seat.new × (numbers seat.new ≡ numbers seat.old) }
+        ensures acted {
+            Acted A.relation A.adds (origin_of self.now) act.old act.new seat.old seat.new result }
+    {
+        for _ in rt.forever() {
+            match self.try_act(seat, act) {
+                Ok(reply) => return reply,
+                Err(_) => thread::yield_now(),
+            }
+        }
+        unreachable!()
+    }
+
+    /// Ends the turn, once all its numbers are together again, and gives the value.
+    pub fn close(self, seats: Vec<Seat<T>>) -> T
+        requires seats { All (IsSeatOf self) seats.items }
+        requires whole { all_numbers seats.items ≡ seats_of self }
+        ensures origin { T.origin result ≡ origin_of self }
+        ensures seen { All (λ s. BeginsWith (T.entries result) (seen s)) seats.items }
+        ensures own { All (λ s. own T.number (number_of s) (T.entries result) ≡ mine s) seats.items }
+        ensures no_others {
+            All (λ x. Any (λ s. T.number x ≡ number_of s) seats.items) (T.entries result) }
+    {
+        let mut seats = seats;
+        let mut place = seats.pop().unwrap().into_place();
+        for seat in seats {
+            self.board
+                .shared
+                .join_seat::<Take>(&mut place, seat.into_place());
+            self.board.shared.load::<Learn>(&mut place, 0);
+        }
+        let Turn { board } = self;
+        let mut closed = board.close_with(place);
+        let value = closed.take(0);
+        closed.free();
+        value
+    }
+}
+
+// Does the act on the value that the place has, and says whether the list has an entry more.
+fn run_here<T: Story, A: Act<T>>(
+    top: &Top<T>,
+    place: &mut Place<T>,
+    act: &mut A,
+    first: u32,
+) -> (A::Reply, bool) {
+    let story = place.slot_mut(top, 0);
+    let before = story.count();
+    let reply = act.run(story, first);
+    let grown = story.count() > before;
+    (reply, grown)
+}
+
+// The value alone in a `Vec`.
+fn one_slot<T>(alloc: Global, value: T) -> Result<Vec<T>, OpenEnd<T>>
+    ensures ok { IfOk result (λ slots. slots.items ≡ value ∷ []) }
+    ensures err { IfErr result (λ e. e.value ≡ value) }
+{
+    let mut slots = Vec::new(alloc);
+    match slots.push(value) {
+        Ok(()) => Ok(slots),
+        Err(failed) => {
+            let AllocFailed { value } = failed;
+            slots.destroy_empty();
+            Err(OpenEnd { value })
+        }
+    }
+}
+
+// The only value of the `Vec`.
+fn only<T>(slots: Vec<T>) -> T
+    requires { length slots.items ≡ 1 }
+    ensures { slots.items ≡ result ∷ [] }
+{
+    let mut slots = slots;
+    let value = slots.pop().unwrap();
+    slots.destroy_empty();
+    value
+}
