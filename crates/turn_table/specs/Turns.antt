@@ -7,20 +7,21 @@ use Rattle.turn_table.specs.declared.seats.Seat.{Seat}
 use Rattle.turn_table.specs.declared.seats.Note.{Note}
 use Rattle.turn_table.specs.declared.turns.Turn.{Turn}
 
-module _ {T I O : Type 0} {g : Ghosts T I O} where
-  -- the origin of the value that it was opened with
-  abbrev pub origin_of : Turn T I O g → O
-  origin_of turn = g.origin turn.board.shared.key.value.value
+module _ {T I O : Type 0} where
+  -- the value that it was opened with
+  abbrev pub opened_with : Turn T I O → T
+  opened_with turn = turn.board.shared.key.value.value
 
   -- how many numbers it was opened with
-  abbrev pub seats_of : Turn T I O g → ℕ
+  abbrev pub seats_of : Turn T I O → ℕ
   seats_of turn = turn.board.shared.key.seats
 
-  abbrev pub IsSeatOf : Turn T I O g → Seat T I O g → Type 0
+module _ {T I O : Type 0} {g : Ghosts T I O} where
+  abbrev pub IsSeatOf : Turn T I O → Seat T I O g → Type 0
   IsSeatOf turn seat = (seat.place.table_id ≡ turn.board.shared.table_id)
-      × (seat.place.me.0.origin ≡ Some (origin_of turn)) × (seat.place.me.0.seats ≡ seats_of turn)
+      × (seat.place.me.0.origin ≡ Some (g.origin (opened_with turn))) × (seat.place.me.0.seats ≡ seats_of turn)
 
-  abbrev pub IsNoteOf : Turn T I O g → Note T I O g → Type 0
+  abbrev pub IsNoteOf : Turn T I O → Note T I O g → Type 0
   IsNoteOf turn note = note.place.table_id ≡ turn.board.shared.table_id
 
   -- how many numbers the seats have together

@@ -20,13 +20,13 @@ pub struct Turn<T: Story> {
 
 impl<T: Story> Turn<T> {
     ghost use Rattle.turn_table.specs.Seats.{seen, numbers, number_of, mine, words, told_by, Keeps, Acted};
-    ghost use Rattle.turn_table.specs.Turns.{origin_of, seats_of, IsSeatOf, IsNoteOf, all_numbers};
+    ghost use Rattle.turn_table.specs.Turns.{opened_with, seats_of, IsSeatOf, IsNoteOf, all_numbers};
 
     /// Opens a turn over a value with no entries, for so many numbers, and gives the seat that has them all.
     pub fn open(alloc: Global, value: T, seats: u32) -> Result<(Turn<T>, Seat<T>), OpenEnd<T>>
         requires empty { T.entries value ≡ [] }
         requires some { 0 < seats }
-        ensures turn { IfOk result (λ r. (origin_of r.0 ≡ T.origin value) × (seats_of r.0 ≡ seats)) }
+        ensures turn { IfOk result (λ r. (opened_with r.0 ≡ value) × (seats_of r.0 ≡ seats)) }
         ensures seat { IfOk result (λ r. IsSeatOf r.0 r.1 × (numbers r.1 ≡ from 0 seats) × (seen r.1 ≡ [])) }
         ensures err { IfErr result (λ e. e.value ≡ value) }
     {
@@ -113,7 +113,8 @@ impl<T: Story> Turn<T> {
         requires { IsSeatOf self.now seat.old }
         ensures seat { IsSeatOf self.now seat.new × (numbers seat.new ≡ numbers seat.old) }
         ensures acted { IfOk result (λ reply.
-            Acted A.relation A.adds (origin_of self.now) act.old act.new seat.old seat.new reply) }
+            Acted A.relation A.adds (T.origin (opened_with self.now))
+                act.old act.new seat.old seat.new reply) }
         ensures free { IfOk result (λ _. words seat.new ≡ words seat.old ++ 0 ∷ []) }
         ensures busy { IfErr result (λ e. words seat.new ≡ words seat.old ++ e.word ∷ []) }
         ensures taken { IfErr result (λ e. (e.word ≢ 0) × (e.word ≢ number_of seat.old + 1)) }
@@ -142,7 +143,8 @@ impl<T: Story> Turn<T> {
         requires { IsSeatOf self.now seat.old }
         ensures seat { IsSeatOf self.now seat.new × (numbers seat.new ≡ numbers seat.old) }
         ensures acted {
-            Acted A.relation A.adds (origin_of self.now) act.old act.new seat.old seat.new result }
+            Acted A.relation A.adds (T.origin (opened_with self.now))
+                act.old act.new seat.old seat.new result }
     {
         for _ in rt.forever() {
             match self.try_act(seat, act) {
@@ -157,7 +159,7 @@ impl<T: Story> Turn<T> {
     pub fn close(self, seats: Vec<Seat<T>>) -> T
         requires seats { All (IsSeatOf self) seats.items }
         requires whole { all_numbers seats.items ≡ seats_of self }
-        ensures origin { T.origin result ≡ origin_of self }
+        ensures origin { T.origin result ≡ T.origin (opened_with self) }
         ensures seen { All (λ s. BeginsWith (T.entries result) (seen s)) seats.items }
         ensures own { All (λ s. own T.number (number_of s) (T.entries result) ≡ mine s) seats.items }
         ensures no_others {
