@@ -1,8 +1,9 @@
 -- Each step keeps the turn's rule.
-use Rattle.std.proofs.Common.{◌≡◌, ◌≢◌, ◌⊎◌, ℕ, zero, suc, ◌+◌, ◌%◌, ◌^◌, ◌<◌, ◌≤◌, Bool, true, false, true≢false, List, [], ◌∷◌, ◌++◌, length, set, refl, sym, ap, ◌∙◌, subst, inl, inr, ⊎_elim, arith, append-nil, length-append, ne_eqb, eqb}
+use Rattle.std.proofs.Common.{◌≡◌, ◌≢◌, ◌⊎◌, ℕ, zero, suc, ◌+◌, ◌%◌, ◌^◌, ◌<◌, ◌≤◌, Bool, true, false, true≢false, List, [], ◌∷◌, ◌++◌, length, set, refl, sym, ap, ◌∙◌, subst, inl, inr, ⊎_elim, arith, append-nil, length-append, eq-eqb, ne_eqb, eqb}
 use Rattle.std.specs.Prelude.{All, MatchBool, ◌==◌, Option, Some, None, slice_index, unwrap_or}
 use Rattle.std.proofs.lemmas.List.Elements.{All-append, All-nil, All-cons}
 use mathlib.Core.Option.{some, none, some-injective, some-ne-none}
+use Rattle.std.proofs.Math.Nat.{mod-eq_of_lt}
 use mathlib.Core.Logic.{dite}
 use native.Mathlib.Decide.{dec_le, ℕ_discrete}
 use lib.ListN.{get_elem?}
@@ -11,9 +12,9 @@ use Rattle.atomic_table.specs.Table.{State, Me, Step, Act, keeps, takes, gives, 
 use Rattle.atomic_table.proofs.Lists.{at_set, at_snoc, at_longer, set_here, set_else, exchanged}
 use Rattle.turn_table.specs.Lists.{BeginsWith, longer, own, times, Has, from, first_of, last_of, all_but_last}
 use Rattle.turn_table.specs.Views.{opened, left, right, noted, told, spent, learned}
-use Rattle.turn_table.specs.Rule.{total, once_below, has_times, how_many, Knows, AtHome, Out, Kept, in_hand, Tries, Counts, Frees, Learns}
+use Rattle.turn_table.specs.Rule.{total, once_below, has_times, how_many, Knows, AtHome, Out, Kept, in_hand, Wins, Loses, Tries, Counts, Frees, Learns}
 use Rattle.turn_table.specs.declared.views.View.{View}
-use Rattle.turn_table.proofs.ListLemmas.{begins_itself, begins_more, begins_through, longer_begins, own_between, own_here, own_else, times-append, times_cut, length_cut, times-from, length-from, some_below, at_most_once, has_length, total_set, total_snoc, total_one, total_two}
+use Rattle.turn_table.proofs.ListLemmas.{begins_itself, begins_more, begins_through, longer_begins, own_between, own_here, own_else, times-append, times_cut, length_cut, times-from, length-from, some_below, is_below, no_times, at_most_once, has_length, total_set, total_snoc, total_one, total_two, total_alone}
 
 -- there in a list of which one place was set
 there_set : {A : Type 0} (xs : List A) (i j : ℕ) (a b : A) → i ≢ j → get_elem? xs j ≡ some b → get_elem? (set xs i a) j ≡ some b
@@ -272,3 +273,247 @@ module _ {T I O : Type 0} (entries : T → List I) (origin_of : T → O) (number
                 (out_set s id v (told v w) s.words at (λ e. e) out))
             k.value;
       }
+
+  at_home : (s : State T (View I O)) (k : Rule s) → k.word ≡ 0 → AtHome entries origin_of number origin k.log s
+  at_home s k z = subst (λ b. MatchBool b (AtHome entries origin_of number origin k.log s) (Out entries origin_of number s)) (eq-eqb k.word 0 z) k.value
+
+  taken : (s : State T (View I O)) (k : Rule s) → k.word ≢ 0 → Out entries origin_of number s
+  taken s k ne = subst (λ b. MatchBool b (AtHome entries origin_of number origin k.log s) (Out entries origin_of number s)) (ne_eqb k.word 0 ne) k.value
+
+  not_in : (s : State T (View I O)) (id j : ℕ) (v u : View I O) → get_elem? s.views id ≡ some v → get_elem? s.views j ≡ some u
+      → v.inside ≡ false → u.inside ≡ true → id ≢ j
+  not_in s id j v u at there outside inside same =
+      true≢false (sym inside ∙ ap (λ (x : View I O). x.inside) (the_same s.views id j v u at there (sym same)) ∙ outside)
+
+  -- a compare-exchange of the turn's word
+  pub tries : (id : ℕ) (v : View I O) (st : Step T) → v.inside ≡ false → v.more ≡ [] → Has v.numbers (first_of v.numbers) → v.origin ≡ Some origin
+      → Allows Rule 1 id (v, []) 1 (λ n. either (n == 0) (first_of v.numbers + 1) n) (Tries entries origin_of number st (v, []))
+  tries id v st outside no_more has is s k len at lt =
+      let first = first_of v.numbers in
+      let f = k.each id v at in
+      let n_is : slice_index s.words 1 ≡ k.word = ap (λ ws. slice_index ws 1) k.words_are in
+      let Q : Bool → ℕ → Type 0 = λ b n. (w : View I O) × (a : Act T) × Valid s.homes [] a
+          × Rule (stepped s 1 (either b (first + 1) n) id [] w a)
+          × MatchBool b (Wins entries origin_of number (v, []) (w, carried_after [] a)) (Loses entries origin_of number (v, []) n (w, carried_after [] a)) in
+      let free : k.word ≡ 0 → Q true 0 = λ z.
+          let home = at_home s k z in
+          let y = home.0 in
+          let w : View I O = record v { seen = entries y; inside = true; words = v.words ++ 0 ∷ [] } in (
+            w,
+            takes 0 y,
+            ap (λ hs. get_elem? hs 0) home.1,
+            record {
+              log = k.log;
+              word = first + 1;
+              words_are = ap (λ ws. set ws 1 (first + 1)) k.words_are;
+              each = each_set (Fits k.log (first + 1)) s.views id w
+                  record {
+                    seen = ([], sym home.2 ∙ sym (append-nil (entries y)));
+                    told = f.told;
+                    own_seen = λ n h. ap (own number n) home.2;
+                    own_told = f.own_told;
+                    inside = λ _. (refl, has, home.2);
+                    origin_is = f.origin_is;
+                    seats_is = f.seats_is;
+                  }
+                  (λ j u ne e. let g = k.each j u e in record {
+                    seen = g.seen;
+                    told = g.told;
+                    own_seen = g.own_seen;
+                    own_told = g.own_told;
+                    inside = λ i. absurd (let x = (g.inside i).0 in omega arith);
+                    origin_is = g.origin_is;
+                    seats_is = g.seats_is;
+                  });
+              dealt = λ n. let t = total_set (has_times n) s.views id v w at in let d = k.dealt n in omega arith;
+              whole = (let t = total_set how_many s.views id v w at in let d = k.whole in omega arith);
+              named = k.named;
+              value = (let after = stepped s 1 (first + 1) id [] w (takes 0 y) in
+                  subst (λ b. MatchBool b (AtHome entries origin_of number origin k.log after) (Out entries origin_of number after))
+                      (sym (one_more first)) (ap (λ hs. set hs 0 none) home.1, (id, w, here_set s.views id v w at, refl)));
+            },
+            (
+              y,
+              refl,
+              is ∙ ap Some (sym home.3),
+              refl,
+              (f.seen.0, home.2 ∙ f.seen.1),
+              λ n h. f.own_seen n h ∙ ap (own number n) (sym home.2),
+            ),
+          ) in
+      let lost : k.word ≢ 0 → Q false k.word = λ ne.
+          let out = taken s k ne in
+          let j = out.1.0 in let u = out.1.1 in let g = k.each j u out.1.2 in let there = g.inside out.1.3 in
+          let other = not_in s id j v u at out.1.2 outside out.1.3 in
+          let w : View I O = record v { words = v.words ++ k.word ∷ [] } in (
+            w,
+            keeps,
+            tt,
+            changed s k id v w at _ (ap (λ ws. set ws 1 k.word) k.words_are)
+                (λ _. record {
+                  seen = f.seen;
+                  told = f.told;
+                  own_seen = f.own_seen;
+                  own_told = f.own_told;
+                  inside = f.inside;
+                  origin_is = f.origin_is;
+                  seats_is = f.seats_is;
+                })
+                (λ n. refl) refl (λ e. e),
+            (
+              refl,
+              (λ e. apart s k id j v u other at out.1.2 first (omega arith)
+                  (let same : first_of u.numbers ≡ first = (let x = there.0 in omega arith) in
+                    let h = subst (λ m. Has u.numbers m) same there.1 in omega arith)),
+              (λ e. let two = total_two how_many s.views id j v u other at out.1.2 in let all = k.whole in
+                  let mine = f.seats_is (has_length first v.numbers has) in
+                  let theirs = has_length (first_of u.numbers) u.numbers there.1 in omega arith),
+            ),
+          ) in
+      subst (λ n. Q (n == 0) n) (sym n_is)
+          (dite (ℕ_discrete k.word 0) (λ z. subst (λ n. Q (n == 0) n) (sym z) (free z)) (λ ne. subst (λ b. Q b k.word) (sym (ne_eqb k.word 0 ne)) (lost ne)))
+
+  -- where one view is in the turn, no other is
+  alone : (s : State T (View I O)) (k : Rule s) (id j : ℕ) (v u : View I O) → j ≢ id → get_elem? s.views id ≡ some v → get_elem? s.views j ≡ some u
+      → v.inside ≡ true → u.inside ≡ true → ⊥
+  alone s k id j v u ne at there inside inside' =
+      let a = (k.each id v at).inside inside in
+      let b = (k.each j u there).inside inside' in
+      let same : first_of u.numbers ≡ first_of v.numbers = (let x = a.0 in let y = b.0 in omega arith) in
+      let has : Has u.numbers (first_of v.numbers) = subst (λ m. Has u.numbers m) same b.1 in
+      let mine : Has v.numbers (first_of v.numbers) = a.1 in
+      apart s k id j v u (λ e. ne (sym e)) at there (first_of v.numbers) (omega arith) (omega arith)
+
+  -- the entry in hand joins the list
+  pub counts : (id : ℕ) (v : View I O) (y : T) (x : I) (st : Step T) → v.inside ≡ true → v.more ≡ []
+      → entries y ≡ v.seen ++ x ∷ [] → number x ≡ first_of v.numbers → length (entries y) < 18446744073709551616
+      → Allows Rule 1 id (v, (0, y) ∷ []) 0 (λ n. (n + 1) % 2 ^ 64) (Counts entries origin_of number st (v, (0, y) ∷ []))
+  counts id v y x st inside no_more grown names fits s k len at lt =
+      let f = k.each id v at in
+      let there = f.inside inside in
+      let log_is : entries y ≡ k.log ++ x ∷ [] = grown ∙ ap (λ l. l ++ x ∷ []) there.2 in
+      let n_is : slice_index s.words 0 ≡ length k.log = ap (λ ws. slice_index ws 0) k.words_are in
+      let more : length (entries y) ≡ length k.log + 1 = ap length log_is ∙ length-append k.log (x ∷ []) in
+      let sum : (length k.log + 1) % 2 ^ 64 ≡ length (entries y) =
+          ap (λ n. n % 2 ^ 64) (sym more) ∙ mod-eq_of_lt fits in
+      let w : View I O = record v { seen = entries y } in
+      let mine : Has v.numbers (number x) = subst (λ m. Has v.numbers m) (sym names) there.1 in
+      let below : number x < seats = some_below (number x) seats
+          (let one = total_one (has_times (number x)) s.views id v at in let d = k.dealt (number x) in omega arith) in
+      let P : I → Type 0 = λ z. number z < seats in
+      let busy : k.word ≢ 0 = λ z. (let e = there.0 in omega arith) in
+      let ws : List ℕ = set s.words 0 ((slice_index s.words 0 + 1) % 2 ^ 64) in
+      let after : State T (View I O) = record { words = ws; homes = s.homes; views = set s.views id w } in (
+        w,
+        keeps,
+        tt,
+        record {
+          log = entries y;
+          word = k.word;
+          words_are = ap (λ l. set l 0 ((slice_index l 0 + 1) % 2 ^ 64)) k.words_are ∙ ap (λ (m : ℕ). m ∷ k.word ∷ []) sum;
+          each = each_set (Fits (entries y) k.word) s.views id w
+              record {
+                seen = begins_itself (entries y);
+                told = subst (λ l. BeginsWith l v.told) (sym log_is) (begins_more k.log v.told (x ∷ []) f.told);
+                own_seen = λ n h. refl;
+                own_told = λ n h. absurd (let z : times n v.more ≡ 0 = ap (times n) no_more in omega arith);
+                inside = λ _. (there.0, there.1, refl);
+                origin_is = f.origin_is;
+                seats_is = f.seats_is;
+              }
+              (λ j u ne e. let g = k.each j u e in
+                let others : (n : ℕ) → 0 < has_times n u → own number n (entries y) ≡ own number n k.log = λ n h.
+                    ap (own number n) log_is ∙ own_else number n k.log x
+                        (λ same. apart s k id j v u (λ i. ne (sym i)) at e n (let m = subst (λ (i : ℕ). Has v.numbers i) same mine in omega arith) h) in
+                record {
+                  seen = subst (λ l. BeginsWith l u.seen) (sym log_is) (begins_more k.log u.seen (x ∷ []) g.seen);
+                  told = subst (λ l. BeginsWith l u.told) (sym log_is) (begins_more k.log u.told (x ∷ []) g.told);
+                  own_seen = λ n h. g.own_seen n h ∙ sym (others n (omega arith));
+                  own_told = λ n h. g.own_told n h ∙ sym (others n (omega arith));
+                  inside = λ i. absurd (alone s k id j v u ne at e inside i);
+                  origin_is = g.origin_is;
+                  seats_is = g.seats_is;
+                });
+          dealt = λ n. let t = total_set (has_times n) s.views id v w at in let d = k.dealt n in omega arith;
+          whole = (let t = total_set how_many s.views id v w at in let d = k.whole in omega arith);
+          named = subst (All P) (sym log_is) (All-append P k.log (x ∷ []) k.named (All-cons P x [] below (All-nil P)));
+          value = subst (λ b. MatchBool b (AtHome entries origin_of number origin (entries y) after) (Out entries origin_of number after))
+              (sym (ne_eqb k.word 0 busy)) (out_set s id v w ws at (λ e. e) (taken s k busy));
+        },
+        refl,
+      )
+
+  -- the value goes home
+  pub frees : (id : ℕ) (v : View I O) (y : T) (st : Step T) → v.inside ≡ true → entries y ≡ v.seen → origin_of y ≡ origin
+      → Allows Rule 1 id (v, (0, y) ∷ []) 1 (λ _. 0) (Frees entries origin_of number st (v, (0, y) ∷ []))
+  frees id v y st inside is origin_is' s k len at lt =
+      let f = k.each id v at in
+      let there = f.inside inside in
+      let busy : k.word ≢ 0 = λ z. (let e = there.0 in omega arith) in
+      let w : View I O = record v { inside = false } in (
+        w,
+        gives,
+        tt,
+        record {
+          log = k.log;
+          word = 0;
+          words_are = ap (λ ws. set ws 1 0) k.words_are;
+          each = each_set (Fits k.log 0) s.views id w
+              record {
+                seen = f.seen;
+                told = f.told;
+                own_seen = f.own_seen;
+                own_told = f.own_told;
+                inside = λ e. absurd (true≢false (sym e));
+                origin_is = f.origin_is;
+                seats_is = f.seats_is;
+              }
+              (λ j u ne e. let g = k.each j u e in record {
+                seen = g.seen;
+                told = g.told;
+                own_seen = g.own_seen;
+                own_told = g.own_told;
+                inside = λ i. absurd (alone s k id j v u ne at e inside i);
+                origin_is = g.origin_is;
+                seats_is = g.seats_is;
+              });
+          dealt = λ n. let t = total_set (has_times n) s.views id v w at in let d = k.dealt n in omega arith;
+          whole = (let t = total_set how_many s.views id v w at in let d = k.whole in omega arith);
+          named = k.named;
+          value = (y, ap (λ hs. set hs 0 (some y)) (taken s k busy).0, is ∙ there.2, origin_is');
+        },
+        refl,
+      )
+
+  -- what the end shows to a view that has all numbers
+  pub closes : (words : List ℕ) (xs : List T) (id : ℕ) (v : View I O) → v.inside ≡ false → v.more ≡ [] → length v.numbers ≡ seats
+      → Final (Seen Rule id v) words xs
+      → (y : T) × (get_elem? xs 0 ≡ some y) × (origin_of y ≡ origin) × BeginsWith (entries y) v.seen
+        × ((n : ℕ) → Has v.numbers n → own number n v.seen ≡ own number n (entries y))
+        × ((n : ℕ) → n < seats → Has v.numbers n) × All (λ x. number x < seats) (entries y)
+  closes words xs id v outside no_more all end =
+      let s = end.0 in let k = end.1.0 in let at = end.1.1 in
+      let f = k.each id v at in
+      let no_more' : length v.more ≡ 0 = ap length no_more in
+      let z : k.word ≡ 0 = dite (ℕ_discrete k.word 0) (λ e. e) (λ ne.
+          let out = taken s k ne in
+          let j = out.1.0 in let u = out.1.1 in
+          let there = (k.each j u out.1.2).inside out.1.3 in
+          let two = total_two how_many s.views id j v u (not_in s id j v u at out.1.2 outside out.1.3) at out.1.2 in
+          let w = k.whole in let theirs = has_length (first_of u.numbers) u.numbers there.1 in absurd (omega arith)) in
+      let home = at_home s k z in
+      let y = home.0 in
+      let none : (n : ℕ) (u : View I O) → how_many u ≡ 0 → has_times n u ≡ 0 = λ n u e.
+          no_times n u.numbers u.more (omega arith) (omega arith) in (
+        y,
+        end.4 0 y (ap (λ hs. get_elem? hs 0) home.1),
+        home.3,
+        (f.seen.0, home.2 ∙ f.seen.1),
+        (λ n h. f.own_seen n h ∙ ap (own number n) (sym home.2)),
+        (λ n h.
+          let same = total_alone (has_times n) how_many (none n) s.views id v at (let w = k.whole in omega arith) in
+          let d = k.dealt n in
+          let o : once_below n seats ≡ 1 = is_below n seats h in
+          let m : times n v.more ≡ 0 = ap (times n) no_more in omega arith),
+        subst (All (λ x. number x < seats)) (sym home.2) k.named,
+      )

@@ -169,6 +169,14 @@ some_below n seats h = dite (dec_le (suc n) seats) (λ lt. lt)
     (λ no. absurd (let z : once_below n seats ≡ 0 = ap (λ c. if c then 1 else 0)
         (false_from_ne_true (nat_lt n seats) (λ e. let lt = ltb-true n seats e in no (omega arith))) in omega arith))
 
+pub is_below : (n seats : ℕ) → n < seats → once_below n seats ≡ 1
+is_below n seats lt = ap (λ c. if c then 1 else 0) (lt-ltb n seats lt)
+
+pub no_times : (n : ℕ) (xs ys : List ℕ) → length xs ≡ 0 → length ys ≡ 0 → times n xs + times n ys ≡ 0
+no_times n xs ys a b =
+    let x : times n xs ≡ 0 = ap (times n) (nil_from_length xs a) in
+    let y : times n ys ≡ 0 = ap (times n) (nil_from_length ys b) in omega arith
+
 pub at_most_once : (n seats : ℕ) → once_below n seats ≤ 1
 at_most_once n seats = dite (dec_le (suc n) seats)
     (λ lt. let e : once_below n seats ≡ 1 = ap (λ c. if c then 1 else 0) (lt-ltb n seats lt) in omega arith)
@@ -206,3 +214,18 @@ module _ {A : Type 0} (f : A → ℕ) where
       let same : f x ≡ f b = ap f (some-injective x b d) in let more = total_one xs i a e in omega arith
   total_two (x ∷ xs) (suc i) (suc j) a b ne e d =
       let more = total_two xs i j a b (λ s. ne (ap suc s)) e d in omega arith
+
+-- where one has all that g counts, it has all that f counts
+module _ {A : Type 0} (f g : A → ℕ) (none : (a : A) → g a ≡ 0 → f a ≡ 0) where
+  total_none : (xs : List A) → total g xs ≡ 0 → total f xs ≡ 0
+  total_none [] e = refl
+  total_none (x ∷ xs) e = let a : f x ≡ 0 = none x (omega arith) in let b = total_none xs (omega arith) in omega arith
+
+  pub total_alone : (xs : List A) (i : ℕ) (a : A) → get_elem? xs i ≡ some a → total g xs ≡ g a → total f xs ≡ f a
+  total_alone [] i a e all = absurd (some-ne-none a (sym e))
+  total_alone (x ∷ xs) zero a e all =
+      let same : f x ≡ f a = ap f (some-injective x a e) in let same' : g x ≡ g a = ap g (some-injective x a e) in
+      let rest = total_none xs (omega arith) in omega arith
+  total_alone (x ∷ xs) (suc i) a e all =
+      let one = total_one g xs i a e in let a_none : f x ≡ 0 = none x (omega arith) in
+      let rest = total_alone xs i a e (omega arith) in omega arith

@@ -62,16 +62,21 @@ module _ {T I O : Type 0} (entries : T → List I) (origin_of : T → O) (number
   in_hand [] = []
   in_hand ((k, y) ∷ rest) = entries y
 
-  -- A try for the turn. Where the word was 0 the seat has the value, and has then seen the whole
-  -- list. Else the word is neither its own nor found by one who has all numbers
+  -- the turn was free: the seat has the value, and has then seen its whole list
+  abbrev pub Wins : Me T (View I O) → Me T (View I O) → Type 0
+  Wins me after = (y : T) × (after.1 ≡ (0, y) ∷ []) × (me.0.origin ≡ Some (origin_of y))
+      × (after.0 ≡ record me.0 { seen = entries y; inside = true; words = me.0.words ++ 0 ∷ [] })
+      × BeginsWith (entries y) me.0.seen
+      × ((n : ℕ) → Has me.0.numbers n → own number n me.0.seen ≡ own number n (entries y))
+
+  -- Another seat was in the turn: the word isn't this seat's own, which hasn't all numbers
+  abbrev pub Loses : Me T (View I O) → ℕ → Me T (View I O) → Type 0
+  Loses me found after = (after ≡ (record me.0 { words = me.0.words ++ found ∷ [] }, me.1))
+      × (found ≢ first_of me.0.numbers + 1) × (length me.0.numbers ≢ me.0.seats)
+
+  -- a try for the turn, which is free where the word is 0
   abbrev pub Tries : Step T → Me T (View I O) → ℕ → Me T (View I O) → Type 0
-  Tries s me found after = MatchBool (found == 0)
-      ((y : T) × (after.1 ≡ (0, y) ∷ []) × (me.0.origin ≡ Some (origin_of y))
-          × (after.0 ≡ record me.0 { seen = entries y; inside = true; words = me.0.words ++ found ∷ [] })
-          × BeginsWith (entries y) me.0.seen
-          × ((n : ℕ) → Has me.0.numbers n → own number n me.0.seen ≡ own number n (entries y)))
-      ((after ≡ (record me.0 { words = me.0.words ++ found ∷ [] }, me.1))
-          × (found ≢ first_of me.0.numbers + 1) × (length me.0.numbers ≢ me.0.seats))
+  Tries s me found after = MatchBool (found == 0) (Wins me after) (Loses me found after)
 
   -- the value's new entry joins the list
   abbrev pub Counts : Step T → Me T (View I O) → ℕ → Me T (View I O) → Type 0
