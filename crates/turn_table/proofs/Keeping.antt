@@ -8,7 +8,7 @@ use mathlib.Core.Logic.{dite}
 use native.Mathlib.Decide.{dec_le, ℕ_discrete}
 use lib.ListN.{get_elem?}
 use prog.Atomic.{either}
-use Rattle.atomic_table.specs.Table.{State, Me, Step, Act, keeps, takes, gives, stepped, Allows, Splits, Joins, Final, Seen, opening, Valid, carried_after}
+use Rattle.atomic_table.specs.Table.{State, Me, Step, step, Act, keeps, takes, gives, stepped, Allows, Splits, Joins, Final, Seen, opening, Valid, carried_after}
 use Rattle.atomic_table.proofs.Lists.{at_set, at_snoc, at_longer, set_here, set_else, exchanged}
 use Rattle.turn_table.specs.Lists.{BeginsWith, longer, own, times, Has, from, first_of, last_of, all_but_last}
 use Rattle.turn_table.specs.Views.{opened, left, right, noted, told, spent, learned}
@@ -32,6 +32,10 @@ one_more : (n : ℕ) → (n + 1 == 0) ≡ false
 one_more n = ne_eqb (n + 1) 0 (λ e. omega arith)
 
 module _ {T I O : Type 0} (entries : T → List I) (origin_of : T → O) (number : I → ℕ) (origin : O) (seats : ℕ) where
+  -- no play here reads which step it was
+  abbrev any : Step T
+  any = step 0 0 0 0 none
+
   abbrev Fits : List I → ℕ → View I O → Type 0
   Fits log word v = Knows entries origin_of number origin seats log word v
 
@@ -196,9 +200,9 @@ module _ {T I O : Type 0} (entries : T → List I) (origin_of : T → O) (number
           (λ e. e)
 
   -- a load: what was told is taken in
-  pub learns : (id : ℕ) (v : View I O) (c : List (ℕ × T)) (st : Step T) → v.inside ≡ false → 0 < length v.numbers
-      → Allows Rule 1 id (v, c) 0 (λ n. n) (Learns entries origin_of number st (v, c))
-  learns id v c st outside nonempty s k len at lt =
+  pub learns : (slots id : ℕ) (v : View I O) (c : List (ℕ × T)) → v.inside ≡ false → 0 < length v.numbers
+      → Allows Rule slots id (v, c) 0 (λ n. n) (Learns entries origin_of number any (v, c))
+  learns slots id v c outside nonempty s k len at lt =
       let f = k.each id v at in
       let both = longer_begins k.log v.seen v.told f.seen f.told in
       let most : List I = longer v.seen v.told in
@@ -286,9 +290,9 @@ module _ {T I O : Type 0} (entries : T → List I) (origin_of : T → O) (number
       true≢false (sym inside ∙ ap (λ (x : View I O). x.inside) (the_same s.views id j v u at there (sym same)) ∙ outside)
 
   -- a compare-exchange of the turn's word
-  pub tries : (id : ℕ) (v : View I O) (st : Step T) → v.inside ≡ false → v.more ≡ [] → Has v.numbers (first_of v.numbers) → v.origin ≡ Some origin
-      → Allows Rule 1 id (v, []) 1 (λ n. either (n == 0) (first_of v.numbers + 1) n) (Tries entries origin_of number st (v, []))
-  tries id v st outside no_more has is s k len at lt =
+  pub tries : (slots id : ℕ) (v : View I O) → v.inside ≡ false → v.more ≡ [] → Has v.numbers (first_of v.numbers) → v.origin ≡ Some origin
+      → Allows Rule slots id (v, []) 1 (λ n. either (n == 0) (first_of v.numbers + 1) n) (Tries entries origin_of number any (v, []))
+  tries slots id v outside no_more has is s k len at lt =
       let first = first_of v.numbers in
       let f = k.each id v at in
       let n_is : slice_index s.words 1 ≡ k.word = ap (λ ws. slice_index ws 1) k.words_are in
@@ -385,10 +389,10 @@ module _ {T I O : Type 0} (entries : T → List I) (origin_of : T → O) (number
       apart s k id j v u (λ e. ne (sym e)) at there (first_of v.numbers) (omega arith) (omega arith)
 
   -- the entry in hand joins the list
-  pub counts : (id : ℕ) (v : View I O) (y : T) (x : I) (st : Step T) → v.inside ≡ true → v.more ≡ []
+  pub counts : (slots id : ℕ) (v : View I O) (y : T) (x : I) → v.inside ≡ true → v.more ≡ []
       → entries y ≡ v.seen ++ x ∷ [] → number x ≡ first_of v.numbers → length (entries y) < 18446744073709551616
-      → Allows Rule 1 id (v, (0, y) ∷ []) 0 (λ n. (n + 1) % 2 ^ 64) (Counts entries origin_of number st (v, (0, y) ∷ []))
-  counts id v y x st inside no_more grown names fits s k len at lt =
+      → Allows Rule slots id (v, (0, y) ∷ []) 0 (λ n. (n + 1) % 2 ^ 64) (Counts entries origin_of number any (v, (0, y) ∷ []))
+  counts slots id v y x inside no_more grown names fits s k len at lt =
       let f = k.each id v at in
       let there = f.inside inside in
       let log_is : entries y ≡ k.log ++ x ∷ [] = grown ∙ ap (λ l. l ++ x ∷ []) there.2 in
@@ -444,9 +448,9 @@ module _ {T I O : Type 0} (entries : T → List I) (origin_of : T → O) (number
       )
 
   -- the value goes home
-  pub frees : (id : ℕ) (v : View I O) (y : T) (st : Step T) → v.inside ≡ true → entries y ≡ v.seen → origin_of y ≡ origin
-      → Allows Rule 1 id (v, (0, y) ∷ []) 1 (λ _. 0) (Frees entries origin_of number st (v, (0, y) ∷ []))
-  frees id v y st inside is origin_is' s k len at lt =
+  pub frees : (slots id : ℕ) (v : View I O) (y : T) → v.inside ≡ true → entries y ≡ v.seen → origin_of y ≡ origin
+      → Allows Rule slots id (v, (0, y) ∷ []) 1 (λ _. 0) (Frees entries origin_of number any (v, (0, y) ∷ []))
+  frees slots id v y inside is origin_is' s k len at lt =
       let f = k.each id v at in
       let there = f.inside inside in
       let busy : k.word ≢ 0 = λ z. (let e = there.0 in omega arith) in
@@ -484,6 +488,20 @@ module _ {T I O : Type 0} (entries : T → List I) (origin_of : T → O) (number
         },
         refl,
       )
+
+  -- the same two, at what a place has in hand
+  pub counts_at : (slots id : ℕ) (me : Me T (View I O)) (y : T) (x : I) → me.1 ≡ (0, y) ∷ [] → me.0.inside ≡ true → me.0.more ≡ []
+      → entries y ≡ me.0.seen ++ x ∷ [] → number x ≡ first_of me.0.numbers → length (entries y) < 18446744073709551616
+      → Allows Rule slots id me 0 (λ n. (n + 1) % 2 ^ 64) (Counts entries origin_of number any me)
+  counts_at slots id me y x has inside no_more grown names fits =
+      subst (λ (c : List (ℕ × T)). Allows Rule slots id (me.0, c) 0 (λ n. (n + 1) % 2 ^ 64) (Counts entries origin_of number any (me.0, c))) (sym has)
+          (counts slots id me.0 y x inside no_more grown names fits)
+
+  pub frees_at : (slots id : ℕ) (me : Me T (View I O)) (y : T) → me.1 ≡ (0, y) ∷ [] → me.0.inside ≡ true → entries y ≡ me.0.seen → origin_of y ≡ origin
+      → Allows Rule slots id me 1 (λ _. 0) (Frees entries origin_of number any me)
+  frees_at slots id me y has inside is origin_is' =
+      subst (λ (c : List (ℕ × T)). Allows Rule slots id (me.0, c) 1 (λ _. 0) (Frees entries origin_of number any (me.0, c))) (sym has)
+          (frees slots id me.0 y inside is origin_is')
 
   -- what the end shows to a view that has all numbers
   pub closes : (words : List ℕ) (xs : List T) (id : ℕ) (v : View I O) → v.inside ≡ false → v.more ≡ [] → length v.numbers ≡ seats

@@ -1,2 +1,3 @@
 pub mod ListLemmas
 pub mod Keeping
+pub mod Aways

@@ -25,6 +25,11 @@ module _ {I O : Type 0} where
   abbrev pub how_many : View I O → ℕ
   how_many v = length v.numbers + length v.more
 
+-- the list of the value in hand
+abbrev pub in_hand : {T I : Type 0} → (T → List I) → List (ℕ × T) → List I
+in_hand entries [] = []
+in_hand entries (x ∷ xs) = entries x.1
+
 module _ {T I O : Type 0} (entries : T → List I) (origin_of : T → O) (number : I → ℕ) where
   -- What the rule says of one view. Both lists are beginnings of the history, and have all entries
   -- of the numbers that came with them. In the turn it has seen all, and the word names its first number
@@ -57,11 +62,6 @@ module _ {T I O : Type 0} (entries : T → List I) (origin_of : T → O) (number
     pub named : All (λ x. number x < seats) log
     pub value : MatchBool (word == 0) (AtHome origin log s) (Out s)
 
-  -- the list of the value in hand
-  abbrev pub in_hand : List (ℕ × T) → List I
-  in_hand [] = []
-  in_hand ((k, y) ∷ rest) = entries y
-
   -- the turn was free: the seat has the value, and has then seen its whole list
   abbrev pub Wins : Me T (View I O) → Me T (View I O) → Type 0
   Wins me after = (y : T) × (after.1 ≡ (0, y) ∷ []) × (me.0.origin ≡ Some (origin_of y))
@@ -80,7 +80,7 @@ module _ {T I O : Type 0} (entries : T → List I) (origin_of : T → O) (number
 
   -- the value's new entry joins the list
   abbrev pub Counts : Step T → Me T (View I O) → ℕ → Me T (View I O) → Type 0
-  Counts s me found after = after ≡ (record me.0 { seen = in_hand me.1 }, me.1)
+  Counts s me found after = after ≡ (record me.0 { seen = in_hand entries me.1 }, me.1)
 
   -- the value goes back, and the turn is free
   abbrev pub Frees : Step T → Me T (View I O) → ℕ → Me T (View I O) → Type 0

@@ -8,8 +8,11 @@ use std::snapshot::Snapshot;
 use std::sync::Wait;
 use std::thread;
 
-ghost use Rattle.std.specs.Prelude.{◌≡◌, ◌≢◌, ℕ, ◌+◌, ◌<◌, ◌≤◌, List, [], ◌∷◌, ◌++◌, length, All, Any, Bool, MatchBool, MatchResult, IfOk, IfErr, IsOk, Some, IsTrue, true};
-ghost use Rattle.turn_table.specs.Lists.{BeginsWith, longer, own, from, last_of};
+ghost use Rattle.std.specs.Prelude.{◌≡◌, ◌≢◌, ℕ, ◌+◌, ◌<◌, ◌≤◌, List, [], ◌∷◌, ◌++◌, length, All, Any, Bool, MatchBool, MatchResult, IfOk, IfErr, IsOk, Some, IsTrue, true, false, ◌^◌};
+ghost use Rattle.turn_table.specs.Lists.{BeginsWith, longer, own, from, last_of, first_of, Adds, Has};
+ghost use Rattle.turn_table.specs.Held.{HasValue, Ran};
+ghost use Rattle.turn_table.specs.Rule.{in_hand};
+ghost use Rattle.turn_table.specs.Views.{learned, told};
 
 /// One value that threads take in turn. Each turn sees what all earlier turns left.
 #[derive(Drop)]
@@ -102,10 +105,7 @@ impl<T: Story> Turn<T> {
         ensures told { BeginsWith (seen seat.new) (told_by note) }
         ensures mine { mine seat.new ≡ mine seat.old }
     {
-        self.board
-            .shared
-            .join_seat::<Take>(&mut seat.place, note.into_place());
-        self.board.shared.load::<Learn>(&mut seat.place, 0);
+        take_in(&self.board.shared, &mut seat.place, note.into_place());
     }
 
     /// Tries once to take the turn, and does the act in it.
@@ -122,19 +122,14 @@ impl<T: Story> Turn<T> {
         ensures alone { length (numbers seat.old) ≡ seats_of self.now → IsOk result }
     {
         let own = u64::from(seat.first) + 1;
-        let found = self
-            .board
-            .shared
-            .compare_exchange::<Try>(&mut seat.place, 1, 0, own);
+        let top = &self.board.shared;
+        let found = top.compare_exchange::<Try>(&mut seat.place, 1, 0, own);
         if found != 0 {
             return Err(Busy { word: found });
         }
-        let first = seat.first;
-        let (reply, grown) = run_here(&self.board.shared, &mut seat.place, act, first);
-        if grown {
-            self.board.shared.fetch_add::<Count>(&mut seat.place, 0, 1);
-        }
-        self.board.shared.swap::<Free>(&mut seat.place, 1, 0);
+        let (reply, grew) = run_here(top, &mut seat.place, act, seat.first);
+        count_entry(top, &mut seat.place, grew);
+        leave(top, &mut seat.place);
         Ok(reply)
     }
 
@@ -168,10 +163,7 @@ impl<T: Story> Turn<T> {
         let mut seats = seats;
         let mut place = seats.pop().unwrap().into_place();
         for seat in seats {
-            self.board
-                .shared
-                .join_seat::<Take>(&mut place, seat.into_place());
-            self.board.shared.load::<Learn>(&mut place, 0);
+            take_in(&self.board.shared, &mut place, seat.into_place());
         }
         let Turn { board } = self;
         let mut closed = board.close_with(place);
@@ -181,18 +173,75 @@ impl<T: Story> Turn<T> {
     }
 }
 
-// Does the act on the value that the place has, and says whether the list has an entry more.
+// Takes in what another has seen, and its numbers.
+fn take_in<T: Story>(top: &Top<T>, place: &mut Place<T>, other: Place<T>)
+    requires table { (place.old.table_id ≡ top.now.table_id) × (other.table_id ≡ top.now.table_id)
+        × (top.now.table_id.words ≡ 2) }
+    requires place { (place.old.me.0.inside ≡ false) × (place.old.me.0.more ≡ [])
+        × (0 < length place.old.me.0.numbers) }
+    requires other { (other.me.0.inside ≡ false) × (other.me.0.more ≡ []) × (other.me.1 ≡ []) }
+    ensures place { (place.new.table_id ≡ place.old.table_id) × (place.new.id ≡ place.old.id) }
+    ensures both { place.new.me ≡ (learned (told place.old.me.0 other.me.0), place.old.me.1) }
+    ensures seen { BeginsWith place.new.me.0.seen place.old.me.0.seen
+        × BeginsWith place.new.me.0.seen other.me.0.seen }
+    ensures own_old { (n : ℕ) → Has place.old.me.0.numbers n
+        → own T.number n place.old.me.0.seen ≡ own T.number n place.new.me.0.seen }
+    ensures own_other { (n : ℕ) → Has other.me.0.numbers n
+        → own T.number n other.me.0.seen ≡ own T.number n place.new.me.0.seen }
+{
+    top.join_seat::<Take>(place, other);
+    top.load::<Learn>(place, 0);
+}
+
+// Does the act on the value that the place has, and says whether the list grew.
 fn run_here<T: Story, A: Act<T>>(
     top: &Top<T>,
     place: &mut Place<T>,
     act: &mut A,
-    first: u32,
-) -> (A::Reply, bool) {
+    number: u32,
+) -> (A::Reply, bool)
+    requires table { place.old.table_id ≡ top.now.table_id }
+    requires value { HasValue place.old.me (λ y. Unit {0}) }
+    ensures place { (place.new.table_id ≡ place.old.table_id) × (place.new.id ≡ place.old.id)
+        × (place.new.me.0 ≡ place.old.me.0) }
+    ensures ran { HasValue place.old.me (λ y. HasValue place.new.me (λ z. Ran T.Story number result.1 y z
+        × A.relation act.old act.new (T.origin y) (T.entries y) (T.entries z) result.0)) }
+    ensures told { result.1 ≡ A.adds result.0 }
+{
     let story = place.slot_mut(top, 0);
     let before = story.count();
-    let reply = act.run(story, first);
-    let grown = story.count() > before;
-    (reply, grown)
+    let reply = act.run(story, number);
+    let grew = story.count() > before;
+    (reply, grew)
+}
+
+// Counts the new entry, if the list grew.
+fn count_entry<T: Story>(top: &Top<T>, place: &mut Place<T>, grew: bool)
+    requires table { (place.old.table_id ≡ top.now.table_id) × (top.now.table_id.words ≡ 2) }
+    requires inside { (place.old.me.0.inside ≡ true) × (place.old.me.0.more ≡ []) }
+    requires value { HasValue place.old.me (λ y. (length (T.entries y) < 2 ^ 64)
+        × MatchBool grew
+            (Adds T.number (first_of place.old.me.0.numbers) place.old.me.0.seen (T.entries y))
+            (T.entries y ≡ place.old.me.0.seen)) }
+    ensures place { (place.new.table_id ≡ place.old.table_id) × (place.new.id ≡ place.old.id) }
+    ensures seen { place.new.me ≡ (record place.old.me.0 {
+        seen = in_hand T.entries place.old.me.1 }, place.old.me.1) }
+{
+    if grew {
+        top.fetch_add::<Count>(place, 0, 1);
+    }
+}
+
+// Gives the value back, and leaves the turn.
+fn leave<T: Story>(top: &Top<T>, place: &mut Place<T>)
+    requires table { (place.old.table_id ≡ top.now.table_id) × (top.now.table_id.words ≡ 2) }
+    requires inside { place.old.me.0.inside ≡ true }
+    requires value { HasValue place.old.me (λ y. (T.origin y ≡ T.origin top.now.key.value.value)
+        × (T.entries y ≡ place.old.me.0.seen)) }
+    ensures place { (place.new.table_id ≡ place.old.table_id) × (place.new.id ≡ place.old.id) }
+    ensures left { place.new.me ≡ (record place.old.me.0 { inside = false }, []) }
+{
+    top.swap::<Free>(place, 1, 0);
 }
 
 // The value alone in a `Vec`.
