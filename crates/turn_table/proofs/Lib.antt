@@ -1,3 +1,4 @@
 pub mod ListLemmas
 pub mod Keeping
 pub mod Aways
+pub mod Acting
