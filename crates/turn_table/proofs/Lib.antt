@@ -2,3 +2,4 @@ pub mod ListLemmas
 pub mod Keeping
 pub mod Aways
 pub mod Acting
+pub mod Gathering

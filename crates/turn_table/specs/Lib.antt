@@ -5,3 +5,4 @@ pub mod Away
 pub mod Seats
 pub mod Turns
 pub mod Held
+pub mod Gathered

@@ -1,5 +1,5 @@
 -- What a seat has seen and made, and what a note tells.
-use Rattle.std.specs.Prelude.{◌≡◌, ℕ, List, [], ◌∷◌, ◌++◌, Bool, MatchBool}
+use Rattle.std.specs.Prelude.{◌≡◌, ℕ, List, [], ◌∷◌, ◌++◌, length, sum_by, Bool, MatchBool}
 use Rattle.turn_table.specs.Lists.{BeginsWith, own, first_of}
 use Rattle.turn_table.specs.declared.stories.Story.{Ghosts}
 use Rattle.turn_table.specs.declared.seats.Seat.{Seat}
@@ -20,6 +20,10 @@ module _ {T I O : Type 0} {g : Ghosts T I O} where
   -- its own entries, the oldest first
   abbrev pub mine : Seat T I O g → List I
   mine seat = own g.number (number_of seat) (seen seat)
+
+  -- how many numbers the seats have together
+  abbrev pub all_numbers : List (Seat T I O g) → ℕ
+  all_numbers seats = sum_by (λ s. length (numbers s)) seats
 
   -- what its tries found in the turn's word
   abbrev pub words : Seat T I O g → List ℕ

@@ -1,7 +1,5 @@
 -- Which turn a seat is at.
-use Rattle.std.specs.Prelude.{◌≡◌, ℕ, List, Some, sum_by, length, All, Any}
-use Rattle.turn_table.specs.Lists.{BeginsWith, own}
-use Rattle.turn_table.specs.Seats.{seen, numbers, number_of, mine}
+use Rattle.std.specs.Prelude.{◌≡◌, ℕ, Some}
 use Rattle.turn_table.specs.declared.stories.Story.{Ghosts}
 use Rattle.turn_table.specs.declared.seats.Seat.{Seat}
 use Rattle.turn_table.specs.declared.seats.Note.{Note}
@@ -23,7 +21,3 @@ module _ {T I O : Type 0} {g : Ghosts T I O} where
 
   abbrev pub IsNoteOf : Turn T I O → Note T I O g → Type 0
   IsNoteOf turn note = note.place.table_id ≡ turn.board.shared.table_id
-
-  -- how many numbers the seats have together
-  abbrev pub all_numbers : List (Seat T I O g) → ℕ
-  all_numbers seats = sum_by (λ s. length (numbers s)) seats

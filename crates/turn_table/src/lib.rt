@@ -3,6 +3,7 @@
 
 mod plays;
 mod seats;
+mod steps;
 mod stories;
 #[cfg(test)]
 mod tests;

@@ -1,6 +1,6 @@
 use Rattle.std.proofs.Common.{arith}
 use Rattle.turn_table.proofs.Keeping.{frees_at}
-use Rattle.turn_table.proofs.turns.leave.Goals as goal
+use Rattle.turn_table.proofs.steps.leave.Goals as goal
 
 pub swap-requires : goal.swap-requires
 swap-requires g c = let has = c.requires.value in (

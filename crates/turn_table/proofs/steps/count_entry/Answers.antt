@@ -5,7 +5,7 @@ use Rattle.turn_table.specs.Lists.{Adds, first_of}
 use Rattle.turn_table.specs.Rule.{in_hand}
 use Rattle.turn_table.specs.declared.views.View.{View}
 use Rattle.turn_table.proofs.Keeping.{counts_at}
-use Rattle.turn_table.proofs.turns.count_entry.Goals as goal
+use Rattle.turn_table.proofs.steps.count_entry.Goals as goal
 
 pub fetch_add-requires : goal.fetch_add-requires
 fetch_add-requires g c =

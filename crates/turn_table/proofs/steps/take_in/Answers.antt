@@ -1,7 +1,7 @@
 use Rattle.std.proofs.Common.{◌≡◌, ◌<◌, length, List, ap, ◌∙◌, subst, sym, arith, ℕ}
 use Rattle.turn_table.specs.declared.views.View.{View}
 use Rattle.turn_table.proofs.Keeping.{takes_in, learns}
-use Rattle.turn_table.proofs.turns.take_in.Goals as goal
+use Rattle.turn_table.proofs.steps.take_in.Goals as goal
 
 pub join_seat-requires : goal.join_seat-requires
 join_seat-requires g c = (
