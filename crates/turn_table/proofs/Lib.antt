@@ -3,3 +3,4 @@ pub mod Keeping
 pub mod Aways
 pub mod Acting
 pub mod Gathering
+pub mod Closing
