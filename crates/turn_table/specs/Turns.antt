@@ -1,5 +1,6 @@
 -- Which turn a seat is at.
-use Rattle.std.specs.Prelude.{◌≡◌, ℕ, Some}
+use Rattle.std.specs.Prelude.{◌≡◌, ℕ, length, Some}
+use Rattle.turn_table.specs.Seats.{numbers}
 use Rattle.turn_table.specs.declared.stories.Story.{Ghosts}
 use Rattle.turn_table.specs.declared.seats.Seat.{Seat}
 use Rattle.turn_table.specs.declared.seats.Note.{Note}
@@ -18,6 +19,10 @@ module _ {T I O : Type 0} {g : Ghosts T I O} where
   abbrev pub IsSeatOf : Turn T I O → Seat T I O g → Type 0
   IsSeatOf turn seat = (seat.place.table_id ≡ turn.board.shared.table_id)
       × (seat.place.me.0.origin ≡ Some (g.origin (opened_with turn))) × (seat.place.me.0.seats ≡ seats_of turn)
+
+  -- a seat with one number
+  abbrev pub HasOne : Turn T I O → Seat T I O g → Type 0
+  HasOne turn seat = IsSeatOf turn seat × (length (numbers seat) ≡ 1)
 
   abbrev pub IsNoteOf : Turn T I O → Note T I O g → Type 0
   IsNoteOf turn note = note.place.table_id ≡ turn.board.shared.table_id

@@ -4,10 +4,9 @@ use std::sync::Wait;
 use std::test::Fail;
 use std::thread::{Threads, join};
 
-ghost use Rattle.std.specs.Prelude.{◌≡◌, List, ℕ, true, length, is_ok, IfOk, IfSome, ◌≤◌, ◌++◌};
-ghost use Rattle.turn_table.specs.Lists.{BeginsWith};
-ghost use Rattle.turn_table.specs.Seats.{numbers, seen, told_by};
-ghost use Rattle.turn_table.specs.Turns.{IsSeatOf, IsNoteOf};
+ghost use Rattle.std.specs.Prelude.{◌≡◌, List, ℕ, false, length, is_ok, IfOk, IfSome};
+ghost use Rattle.std.specs.Thread.{IsSync};
+ghost use Rattle.turn_table.specs.Turns.{seats_of, HasOne};
 
 // Numbers that threads append, each beside the number of the seat.
 #[derive(Drop)]
@@ -62,9 +61,12 @@ impl Act<Row> for Look {
     }
 }
 
-type Row4 = (Turn<Row>, Seat<Row>, Seat<Row>, Seat<Row>, Seat<Row>);
+type Four = (Turn<Row>, Seat<Row>, Seat<Row>, Seat<Row>, Seat<Row>);
 
-fn four_seats(alloc: Global) -> Option<Row4>
+// A turn over an empty row, and four seats with a number each.
+fn four_seats(alloc: Global) -> Option<Four>
+    ensures turn { IfSome result (λ r. seats_of r.0 ≡ 4) }
+    ensures seats { IfSome result (λ r. HasOne r.0 r.1 × HasOne r.0 r.2 × HasOne r.0 r.3 × HasOne r.0 r.4) }
 {
     let row = Row {
         entries: Vec::new(alloc),
@@ -80,6 +82,8 @@ fn four_seats(alloc: Global) -> Option<Row4>
 
 // Appends the values below `count`, until memory runs out.
 fn append_all<R: Wait>(rt: &R, turn: &Turn<Row>, mut seat: Seat<Row>, count: u64) -> Seat<Row>
+    requires { HasOne turn.now seat }
+    ensures { HasOne turn.now result }
 {
     for value in 0..count {
         if turn.act(rt, &mut seat, &mut Append { value }).is_err() {
@@ -89,40 +93,64 @@ fn append_all<R: Wait>(rt: &R, turn: &Turn<Row>, mut seat: Seat<Row>, count: u64
     seat
 }
 
+// Appends by two threads.
+fn by_two<R: Threads + Wait + Sync>(
+    rt: &R,
+    turn: &Turn<Row>,
+    a: Seat<Row>,
+    b: Seat<Row>,
+    count: u64,
+) -> (Seat<Row>, Seat<Row>)
+    requires { HasOne turn.now a × HasOne turn.now b }
+    ensures { HasOne turn.now result.0 × HasOne turn.now result.1 }
+{
+    join(
+        rt,
+        || -> Seat<Row>
+            requires { HasOne turn.now a }
+            ensures { HasOne turn.entry.now result }
+        { append_all(rt, turn, a, count) },
+        || -> Seat<Row>
+            requires { HasOne turn.now b }
+            ensures { HasOne turn.entry.now result }
+        { append_all(rt, turn, b, count) },
+    )
+}
+
+// What four threads appended, each the values below `count`.
+fn by_four<R: Threads + Wait + Sync>(rt: &R, alloc: Global, count: u64) -> Option<Row> {
+    let (turn, a, b, c, d) = four_seats(alloc)?;
+    let here = &turn;
+    let ((a, b), (c, d)) = join(
+        rt,
+        || -> (Seat<Row>, Seat<Row>)
+            requires { IsSync R.row × HasOne here.now a × HasOne here.now b }
+            ensures { HasOne here.entry.now result.0 × HasOne here.entry.now result.1 }
+        { by_two(rt, here, a, b, count) },
+        || -> (Seat<Row>, Seat<Row>)
+            requires { IsSync R.row × HasOne here.now c × HasOne here.now d }
+            ensures { HasOne here.entry.now result.0 × HasOne here.entry.now result.1 }
+        { by_two(rt, here, c, d, count) },
+    );
+    let Ok(seats) = Vec::from_array(alloc, [a, b, c, d]) else {
+        return None;
+    };
+    Some(turn.close(seats))
+}
+
 #[test]
 fn four_threads_append(rt: HostRuntime) -> Result<(), Fail> {
     const EACH: u64 = 10_000;
-    let alloc: Global = rt.alloc();
-    let Some((turn, a, b, c, d)) = four_seats(alloc) else {
+    let Some(row) = by_four(&rt, rt.alloc(), EACH) else {
         panic!(rt; "no memory");
     };
-    let here = &turn;
-    let ((a, b), (c, d)) = join(
-        &rt,
-        || join(
-            &rt,
-            || append_all(&rt, here, a, EACH),
-            || append_all(&rt, here, b, EACH),
-        ),
-        || join(
-            &rt,
-            || append_all(&rt, here, c, EACH),
-            || append_all(&rt, here, d, EACH),
-        ),
-    );
-    let mut seats = Vec::with_capacity(alloc, 4)?;
-    seats.push(a)?;
-    seats.push(b)?;
-    seats.push(c)?;
-    seats.push(d)?;
-    let row = turn.close(seats);
     assert_eq!(rt; row.entries.len(), 40_000);
     let mut next = [0u64; 4];
     for (number, value) in row.entries.iter() {
         assert!(rt; *number < 4);
         let at = &mut next[*number as usize];
         assert_eq!(rt; *value, *at);
-        *at += 1;
+        *at = at.wrapping_add(1);
     }
     assert!(rt; next == [EACH; 4]);
     Ok(())

@@ -61,6 +61,7 @@ impl<T: Story> Turn<T> {
         ensures seats { IsSeatOf self.now result.0 × IsSeatOf self.now result.1 }
         ensures numbers { numbers seat ≡ numbers result.0 ++ numbers result.1 }
         ensures one { length (numbers result.1) ≡ 1 }
+        ensures fewer { length (numbers result.0) + 1 ≡ length (numbers seat) }
         ensures first { number_of result.0 ≡ number_of seat }
         ensures last { number_of result.1 ≡ last_of (numbers seat) }
         ensures seen { (seen result.0 ≡ seen seat) × (seen result.1 ≡ seen seat) }
@@ -103,6 +104,7 @@ impl<T: Story> Turn<T> {
         ensures old { BeginsWith (seen seat.new) (seen seat.old) }
         ensures told { BeginsWith (seen seat.new) (told_by note) }
         ensures mine { mine seat.new ≡ mine seat.old }
+        ensures words { words seat.new ≡ words seat.old }
     {
         take_in(&self.board.shared, &mut seat.place, note.into_place());
     }

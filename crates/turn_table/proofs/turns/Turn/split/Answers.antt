@@ -5,7 +5,7 @@ use Rattle.turn_table.specs.Views.{left, right}
 use Rattle.turn_table.specs.declared.views.View.{View}
 use Rattle.turn_table.proofs.Keeping.{deals}
 use Rattle.turn_table.proofs.Aways.{away_left, away_right, none_left, none_right, none_last}
-use Rattle.turn_table.proofs.ListLemmas.{append_cut}
+use Rattle.turn_table.proofs.ListLemmas.{append_cut, length_cut}
 use Rattle.turn_table.proofs.turns.Turn.split.Goals as goal
 
 pub split_seat-last-requires : goal.split_seat-last-requires
@@ -58,3 +58,10 @@ returns-clause-new g c =
     let right_is = c.split_seat-last.ensures.4 ∙ ap (λ q. (right q.me.0, [])) c.into_place-place.ensures in
     ap (λ m. own g.T.Story.number (first_of m.0.numbers) m.0.seen) right_is
         ∙ none_last g.T.Story.number seat.first seat.count seat.place.me.0 seat.away.0 c.requires.two seat.none_else
+
+pub returns-clause-fewer : goal.returns-clause-fewer
+returns-clause-fewer g c =
+    let v = c.args.seat.place.me.0 in
+    let two = c.requires.two in
+    let left_is = c.split_seat-last.ensures.2 ∙ ap (λ q. (left q.me.0, q.me.1)) c.into_place-place.ensures in
+    ap (λ m. length m.0.numbers + 1) left_is ∙ length_cut v.numbers (omega arith)
