@@ -4,9 +4,10 @@ use std::sync::Wait;
 use std::test::Fail;
 use std::thread::{Threads, join};
 
-ghost use Rattle.std.specs.Prelude.{◌≡◌, List, ℕ, false, length, is_ok, IfOk, IfSome};
+ghost use Rattle.std.specs.Prelude.{◌≡◌, List, ℕ, false, length, is_ok, IfOk, IfSome, true, ◌<◌};
 ghost use Rattle.std.specs.Thread.{IsSync};
-ghost use Rattle.turn_table.specs.Turns.{seats_of, HasOne};
+ghost use Rattle.turn_table.specs.Turns.{seats_of, HasOne, IsNoteOf};
+ghost use Rattle.turn_table.specs.Seats.{told_by};
 
 // Numbers that threads append, each beside the number of the seat.
 #[derive(Drop)]
@@ -154,4 +155,72 @@ fn four_threads_append(rt: HostRuntime) -> Result<(), Fail> {
     }
     assert!(rt; next == [EACH; 4]);
     Ok(())
+}
+
+// Appends a value, and writes a note of what was seen: the entry's place is in it.
+fn append_and_note<R: Wait>(
+    rt: &R,
+    turn: &Turn<Row>,
+    mut seat: Seat<Row>,
+) -> Option<(Seat<Row>, Note<Row>, u64)>
+    requires { HasOne turn.now seat }
+    ensures { IfSome result (λ r. HasOne turn.now r.0 × IsNoteOf turn.now r.1
+        × (r.2 < length (told_by r.1))) }
+{
+    let Ok(place) = turn.act(rt, &mut seat, &mut Append { value: 7 }) else {
+        return None;
+    };
+    let note = turn.note(&mut seat);
+    Some((seat, note, place))
+}
+
+// Hears a note, and says whether there is an entry at a place that the note's maker had seen.
+fn hear_and_find<R: Wait>(
+    rt: &R,
+    turn: &Turn<Row>,
+    mut seat: Seat<Row>,
+    note: Note<Row>,
+    place: u64,
+) -> bool
+    requires seat { HasOne turn.now seat × IsNoteOf turn.now note }
+    requires told { place < length (told_by note) }
+    ensures { result ≡ true }
+{
+    turn.hear(&mut seat, note);
+    place < turn.act(rt, &mut seat, &mut Look)
+}
+
+// One thread appends and gives its note to another, which then finds the entry.
+fn told<R: Threads + Wait + Sync>(rt: &R, alloc: Global) -> Option<bool>
+    ensures { IfSome result (λ found. found ≡ true) }
+{
+    let (turn, a, b, _c, _d) = four_seats(alloc)?;
+    let here = &turn;
+    let (told, b) = join(
+        rt,
+        || -> Option<(Seat<Row>, Note<Row>, u64)>
+            requires { HasOne here.now a }
+            ensures { IfSome result (λ r. HasOne here.entry.now r.0 × IsNoteOf here.entry.now r.1
+                × (r.2 < length (told_by r.1))) }
+        { append_and_note(rt, here, a) },
+        || -> Seat<Row>
+            requires { HasOne here.now b }
+            ensures { HasOne here.entry.now result }
+        { append_all(rt, here, b, 5) },
+    );
+    let (_a, note, place) = told?;
+    let (found, ()) = join(
+        rt,
+        || -> bool
+            requires { HasOne here.now b × IsNoteOf here.now note × (place < length (told_by note)) }
+            ensures { result ≡ true }
+        { hear_and_find(rt, here, b, note, place) },
+        || (),
+    );
+    Some(found)
+}
+
+#[test]
+fn a_note_goes_to_another_thread(rt: HostRuntime) {
+    assert!(rt; told(&rt, rt.alloc()) == Some(true));
 }
