@@ -1,5 +1,5 @@
 -- What a call and a run of calls do to an actor.
-use Rattle.std.specs.Prelude.{◌≡◌, ◌⊎◌, ℕ, ◌+◌, Bool, true, false}
+use Rattle.std.specs.Prelude.{◌≡◌, ℕ, ◌+◌, Bool, true, false}
 use Rattle.node_workers.specs.declared.actors.Called.{Called}
 use Rattle.node_workers.specs.declared.actors.Called.TheVariants.{Done, Again, Ended}
 

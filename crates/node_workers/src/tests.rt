@@ -1,10 +1,10 @@
+ghost use Rattle.std.specs.Prelude.{◌≡◌, ◌+◌, ◌<◌, ℕ, false, if◌then◌else◌, ◌==◌};
+
 use crate::{Actor, Called, Gate, OpenGate, run_node};
 use mdc_types::NodeId;
 use std::alloc::Global;
 use std::sync::{Mutex, Wait};
 use std::test::Fail;
-
-ghost use Rattle.std.specs.Prelude.{◌≡◌, ◌+◌, ◌<◌, ℕ, false, if◌then◌else◌, ◌==◌};
 
 // What happens, in its order.
 #[derive(Drop, Clone, Copy, PartialEq, Eq, Debug)]
@@ -92,7 +92,12 @@ fn played<R: Wait>(
 #[test]
 fn passes_the_gate_before_each_call(rt: HostRuntime) -> Result<(), Fail> {
     let steps = played(&rt, rt.alloc(), None, None, 2);
-    let want = [Step::Pass(3, 0), Step::Call(0), Step::Pass(3, 1), Step::Call(1)];
+    let want = [
+        Step::Pass(3, 0),
+        Step::Call(0),
+        Step::Pass(3, 1),
+        Step::Call(1),
+    ];
     assert!(rt; steps.as_slice() == want.as_slice());
     Ok(())
 }

@@ -19,7 +19,8 @@ pub fn run_node<A: Actor, G: Gate, R: Wait>(
     requires goes_on { A.ended actor.old ≡ false }
     requires gate { (k : ℕ) → k < calls → G.opened gate.now node k → A.may (A.made actor.old) k }
     ensures made { A.made actor.new ≡ A.made actor.old }
-    ensures all { MatchBool (A.ended actor.new) (A.done actor.new ≤ calls) (A.done actor.new ≡ calls) }
+    ensures all { MatchBool (A.ended actor.new)
+        (A.done actor.new ≤ calls) (A.done actor.new ≡ calls) }
 {
     for k in 0..calls {
         gate.pass(rt, node, k);

@@ -25,13 +25,13 @@ module _ {T I O : Type 0} (g : Ghosts T I O) where
   pub tries_at : (origin : O) (seats slots id : ℕ) (me : Me T (View I O)) (word : ℕ) → me.1 ≡ [] → first_of me.0.numbers + 1 ≡ word
       → me.0.inside ≡ false → me.0.more ≡ [] → Has me.0.numbers (first_of me.0.numbers) → me.0.origin ≡ Some origin
       → Allows (Kept g.entries g.origin g.number origin seats) slots id me 1 (λ n. either (n == 0) word n)
-          (λ found after. MatchBool (found == 0) (Wins g.entries g.origin g.number me after) (Loses g.entries g.origin g.number me found after))
+      (λ found after. MatchBool (found == 0) (Wins g.entries g.origin g.number me after) (Loses g.entries g.origin g.number me found after))
   tries_at origin seats slots id me word empty is outside no_more has origin_is =
       subst (λ (n : ℕ). Allows (Kept g.entries g.origin g.number origin seats) slots id me 1 (λ m. either (m == 0) n m)
-              (λ found after. MatchBool (found == 0) (Wins g.entries g.origin g.number me after) (Loses g.entries g.origin g.number me found after))) is
-          (subst (λ (c : List (ℕ × T)). Allows (Kept g.entries g.origin g.number origin seats) slots id (me.0, c) 1 (λ m. either (m == 0) (first_of me.0.numbers + 1) m)
-                  (λ found after. MatchBool (found == 0) (Wins g.entries g.origin g.number (me.0, c) after) (Loses g.entries g.origin g.number (me.0, c) found after))) (sym empty)
-              (tries g.entries g.origin g.number origin seats slots id me.0 outside no_more has origin_is))
+      (λ found after. MatchBool (found == 0) (Wins g.entries g.origin g.number me after) (Loses g.entries g.origin g.number me found after))) is
+      (subst (λ (c : List (ℕ × T)). Allows (Kept g.entries g.origin g.number origin seats) slots id (me.0, c) 1 (λ m. either (m == 0) (first_of me.0.numbers + 1) m)
+      (λ found after. MatchBool (found == 0) (Wins g.entries g.origin g.number (me.0, c) after) (Loses g.entries g.origin g.number (me.0, c) found after))) (sym empty)
+      (tries g.entries g.origin g.number origin seats slots id me.0 outside no_more has origin_is))
 
   -- the turn was free
   pub won : (me after : Me T (View I O)) (found : ℕ) → found ≡ 0
@@ -46,31 +46,31 @@ module _ {T I O : Type 0} (g : Ghosts T I O) where
       → Ran g first grew y z → relation act act' (g.origin y) (g.entries y) (g.entries z) reply → grew ≡ adds reply
       → w.seen ≡ g.entries z → w.numbers ≡ v.numbers
       → (before : List I) × BeginsWith before v.seen × relation act act' origin before w.seen reply
-        × MatchBool (adds reply)
-            ((x : I) × (g.number x ≡ first_of v.numbers) × (w.seen ≡ before ++ x ∷ [])
-              × (own g.number (first_of w.numbers) w.seen ≡ own g.number (first_of v.numbers) v.seen ++ x ∷ []))
-            ((w.seen ≡ before) × (own g.number (first_of w.numbers) w.seen ≡ own g.number (first_of v.numbers) v.seen))
+      × MatchBool (adds reply)
+      ((x : I) × (g.number x ≡ first_of v.numbers) × (w.seen ≡ before ++ x ∷ [])
+      × (own g.number (first_of w.numbers) w.seen ≡ own g.number (first_of v.numbers) v.seen ++ x ∷ []))
+      ((w.seen ≡ before) × (own g.number (first_of w.numbers) w.seen ≡ own g.number (first_of v.numbers) v.seen))
   acted relation adds origin act act' reply grew v w first y z first_is origin_is origin_is' begins mine ran related told seen_is numbers_is =
       let same : g.origin y ≡ origin = ap (λ o. unwrap_or o origin) (sym origin_is' ∙ origin_is) in
       let k : ℕ = first_of v.numbers in
       let own_is : own g.number (first_of w.numbers) w.seen ≡ own g.number k (g.entries z) =
-          (λ i. own g.number (first_of (numbers_is i)) (seen_is i)) in (
+      (λ i. own g.number (first_of (numbers_is i)) (seen_is i)) in (
         g.entries y,
         begins,
         subst (λ o. relation act act' o (g.entries y) w.seen reply) same
             (subst (λ l. relation act act' (g.origin y) (g.entries y) l reply) (sym seen_is) related),
         subst (λ b. MatchBool b
-                ((x : I) × (g.number x ≡ k) × (w.seen ≡ g.entries y ++ x ∷ []) × (own g.number (first_of w.numbers) w.seen ≡ own g.number k v.seen ++ x ∷ []))
-                ((w.seen ≡ g.entries y) × (own g.number (first_of w.numbers) w.seen ≡ own g.number k v.seen)))
+            ((x : I) × (g.number x ≡ k) × (w.seen ≡ g.entries y ++ x ∷ []) × (own g.number (first_of w.numbers) w.seen ≡ own g.number k v.seen ++ x ∷ []))
+            ((w.seen ≡ g.entries y) × (own g.number (first_of w.numbers) w.seen ≡ own g.number k v.seen)))
             told (either_way grew own_is ran.1),
       )
     where
       either_way : (b : Bool) → own g.number (first_of w.numbers) w.seen ≡ own g.number (first_of v.numbers) (g.entries z)
           → MatchBool b (Adds g.number first (g.entries y) (g.entries z)) (g.entries z ≡ g.entries y)
           → MatchBool b
-              ((x : I) × (g.number x ≡ first_of v.numbers) × (w.seen ≡ g.entries y ++ x ∷ [])
-                × (own g.number (first_of w.numbers) w.seen ≡ own g.number (first_of v.numbers) v.seen ++ x ∷ []))
-              ((w.seen ≡ g.entries y) × (own g.number (first_of w.numbers) w.seen ≡ own g.number (first_of v.numbers) v.seen))
+          ((x : I) × (g.number x ≡ first_of v.numbers) × (w.seen ≡ g.entries y ++ x ∷ [])
+          × (own g.number (first_of w.numbers) w.seen ≡ own g.number (first_of v.numbers) v.seen ++ x ∷ []))
+          ((w.seen ≡ g.entries y) × (own g.number (first_of w.numbers) w.seen ≡ own g.number (first_of v.numbers) v.seen))
       either_way true own_is (x, names, grown) = (
         x,
         names ∙ first_is,

@@ -28,7 +28,7 @@ module _ {I O : Type 0} where
   pub has_first : (first count : ℕ) (v : View I O) → IsAway first count v → Has v.numbers (first_of v.numbers)
   has_first first count v a =
       subst (λ ns. Has ns (first_of ns)) (sym a.numbers_are)
-          (subst (λ n. Has (from first count) n) (sym (first_from first count a.some_number)) (times_first first count a.some_number))
+      (subst (λ n. Has (from first count) n) (sym (first_from first count a.some_number)) (times_first first count a.some_number))
 
   pub last_is : (first count : ℕ) (v : View I O) → IsAway first count v → last_of v.numbers ≡ first + (count - 1)
   last_is first count v a = ap last_of a.numbers_are ∙ last_from first count a.some_number
@@ -66,6 +66,6 @@ module _ {I O : Type 0} where
       → NoneElse number first v → own number (last_of v.numbers) v.seen ≡ []
   none_last number first count v a two none =
       none (last_of v.numbers)
-          (let t = times_cut (last_of v.numbers) v.numbers (omega arith) in
-            let one = times_first (last_of v.numbers) 1 (omega arith) in omega arith)
-          (λ e. let l = last_is first count v a in let n = count_is first count v a in omega arith)
+      (let t = times_cut (last_of v.numbers) v.numbers (omega arith) in
+      let one = times_first (last_of v.numbers) 1 (omega arith) in omega arith)
+      (λ e. let l = last_is first count v a in let n = count_is first count v a in omega arith)

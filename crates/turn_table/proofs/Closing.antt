@@ -30,11 +30,11 @@ module _ {I : Type 0} (number : I → ℕ) where
   own_has [] i d lt e = absurd (omega arith)
   own_has (x ∷ xs) zero d lt e =
       let there : x ∷ own number (number x) xs ≡ [] =
-          ap (λ b. if b then x ∷ own number (number x) xs else own number (number x) xs) (sym (eq-eqb (number x) (number x) refl)) ∙ e in
+      ap (λ b. if b then x ∷ own number (number x) xs else own number (number x) xs) (sym (eq-eqb (number x) (number x) refl)) ∙ e in
       absurd (cc)
   own_has (x ∷ xs) (suc i) d lt e =
       own_has xs i d (omega arith)
-          (taken_or (number x == number (get_or xs i d)) x (own number (number (get_or xs i d)) xs) e)
+      (taken_or (number x == number (get_or xs i d)) x (own number (number (get_or xs i d)) xs) e)
 
 module _ {T I O : Type 0} {g : Ghosts T I O} where
   -- a number of a seat that names an entry is the first of its numbers
@@ -45,20 +45,20 @@ module _ {T I O : Type 0} {g : Ghosts T I O} where
   is_first s w y i d lt knows shows has =
       let n : ℕ = g.number (get_or (g.entries y) i d) in
       dite (ℕ_discrete n s.first) (λ e. e ∙ sym (first_is s.first s.count s.place.me.0 s.away.0))
-          (λ ne. absurd (own_has g.number (g.entries y) i d lt
-            (sym ((knows n has).1 ∙ shows n (knows n has).0) ∙ s.none_else n has ne)))
+      (λ ne. absurd (own_has g.number (g.entries y) i d lt
+      (sym ((knows n has).1 ∙ shows n (knows n has).0) ∙ s.none_else n has ne)))
 
   pub shown : (seats : ℕ) (rest : List (Seat T I O g)) (p : Seat T I O g) (w : View I O) (y : T) → Gathers p.place.me.0 rest w
       → BeginsWith (g.entries y) w.seen
       → ((n : ℕ) → Has w.numbers n → own g.number n w.seen ≡ own g.number n (g.entries y))
       → ((n : ℕ) → n < seats → Has w.numbers n) → All (λ x. g.number x < seats) (g.entries y)
       → All (λ s. BeginsWith (g.entries y) (seen s)) (rest ++ p ∷ [])
-        × All (λ s. own g.number (number_of s) (g.entries y) ≡ mine s) (rest ++ p ∷ [])
-        × All (λ x. Any (λ s. g.number x ≡ number_of s) (rest ++ p ∷ [])) (g.entries y)
+      × All (λ s. own g.number (number_of s) (g.entries y) ≡ mine s) (rest ++ p ∷ [])
+      × All (λ x. Any (λ s. g.number x ≡ number_of s) (rest ++ p ∷ [])) (g.entries y)
   shown seats rest p w y k begins shows has_all named =
       let first_has = λ (s : Seat T I O g). has_first s.first s.count s.place.me.0 s.away.0 in
       let own_of = λ (s : Seat T I O g) (f : KnowsAll g.number w (numbers s) (seen s)).
-          sym ((f (number_of s) (first_has s)).1 ∙ shows (number_of s) (f (number_of s) (first_has s)).0) in (
+      sym ((f (number_of s) (first_has s)).1 ∙ shows (number_of s) (f (number_of s) (first_has s)).0) in (
         All-append (λ s. BeginsWith (g.entries y) (seen s)) rest (p ∷ [])
             (λ i d lt. begins_through (g.entries y) w.seen _ begins (k.begins_each i d lt))
             (All-cons (λ s. BeginsWith (g.entries y) (seen s)) p [] (begins_through (g.entries y) w.seen (seen p) begins k.begins) (All-nil _)),
@@ -66,13 +66,13 @@ module _ {T I O : Type 0} {g : Ghosts T I O} where
             (λ i d lt. own_of (get_or rest i d) (k.knows_each i d lt))
             (All-cons (λ s. own g.number (number_of s) (g.entries y) ≡ mine s) p [] (own_of p k.knows) (All-nil _)),
         (λ i d lt.
-          let x : I = get_or (g.entries y) i d in
-          let P : Seat T I O g → Type 0 = λ s. g.number x ≡ number_of s in
-          ⊎_elim
-              (λ (h : Has p.place.me.0.numbers (g.number x)). any_last P rest p (is_first p w y i d lt k.knows shows h))
-              (λ (h : Any (λ s. Has (numbers s) (g.number x)) rest). any_front P rest (p ∷ [])
-                (h.0, h.1, h.2, h.3, is_first h.1 w y i d lt (subst (λ s. KnowsAll g.number w (numbers s) (seen s)) h.3 (k.knows_each h.0 h.1 h.2)) shows h.4))
-              (k.only (g.number x) (has_all (g.number x) (named i d lt)))),
+            let x : I = get_or (g.entries y) i d in
+            let P : Seat T I O g → Type 0 = λ s. g.number x ≡ number_of s in
+            ⊎_elim
+            (λ (h : Has p.place.me.0.numbers (g.number x)). any_last P rest p (is_first p w y i d lt k.knows shows h))
+            (λ (h : Any (λ s. Has (numbers s) (g.number x)) rest). any_front P rest (p ∷ [])
+            (h.0, h.1, h.2, h.3, is_first h.1 w y i d lt (subst (λ s. KnowsAll g.number w (numbers s) (seen s)) h.3 (k.knows_each h.0 h.1 h.2)) shows h.4))
+            (k.only (g.number x) (has_all (g.number x) (named i d lt)))),
       )
 
   -- what `close` promises of the value in the slot
@@ -80,8 +80,8 @@ module _ {T I O : Type 0} {g : Ghosts T I O} where
       (words : List ℕ) (xs : List T) (value : T) → items ≡ rest ++ p ∷ [] → all_numbers items ≡ count → Gathers p.place.me.0 rest w
       → Final (Seen (Kept g.entries g.origin g.number origin count) id w) words xs → get_elem? xs 0 ≡ some value
       → (g.origin value ≡ origin) × All (λ s. BeginsWith (g.entries value) (seen s)) items
-        × All (λ s. own g.number (number_of s) (g.entries value) ≡ mine s) items
-        × All (λ x. Any (λ s. g.number x ≡ number_of s) items) (g.entries value)
+      × All (λ s. own g.number (number_of s) (g.entries value) ≡ mine s) items
+      × All (λ x. Any (λ s. g.number x ≡ number_of s) items) (g.entries value)
   ends origin count items rest p w id words xs value items_are whole k end at =
       let f : Seat T I O g → ℕ = λ s. length (numbers s) in
       let many = k.many in
@@ -90,7 +90,7 @@ module _ {T I O : Type 0} {g : Ghosts T I O} where
       let same : r.0 ≡ value = some-injective r.0 value (sym r.1 ∙ at) in
       let all = shown count rest p w r.0 k r.3 r.4 r.5 r.6 in
       let P : List (Seat T I O g) → T → Type 0 = λ l v. All (λ s. BeginsWith (g.entries v) (seen s)) l
-          × All (λ s. own g.number (number_of s) (g.entries v) ≡ mine s) l
-          × All (λ x. Any (λ s. g.number x ≡ number_of s) l) (g.entries v) in
+      × All (λ s. own g.number (number_of s) (g.entries v) ≡ mine s) l
+      × All (λ x. Any (λ s. g.number x ≡ number_of s) l) (g.entries v) in
       let done : P items value = subst (λ l. P l value) (sym items_are) (subst (P (rest ++ p ∷ [])) same all) in
       (ap g.origin (sym same) ∙ r.2, done.0, done.1, done.2)

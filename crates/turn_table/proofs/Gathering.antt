@@ -61,11 +61,11 @@ module _ {T I O : Type 0} {g : Ghosts T I O} where
   gathers_more v w done s w' k is old new own_old own_new =
       let numbers_are : w'.numbers ≡ w.numbers ++ numbers s = ap (λ (x : View I O). x.numbers) is in
       let has_old : (n : ℕ) → Has w.numbers n → Has w'.numbers n = λ n h.
-          (let a = times-append n w.numbers (numbers s) in let b : times n w'.numbers ≡ times n (w.numbers ++ numbers s) = ap (times n) numbers_are in omega arith) in
+      (let a = times-append n w.numbers (numbers s) in let b : times n w'.numbers ≡ times n (w.numbers ++ numbers s) = ap (times n) numbers_are in omega arith) in
       let has_new : (n : ℕ) → Has (numbers s) n → Has w'.numbers n = λ n h.
-          (let a = times-append n w.numbers (numbers s) in let b : times n w'.numbers ≡ times n (w.numbers ++ numbers s) = ap (times n) numbers_are in omega arith) in
+      (let a = times-append n w.numbers (numbers s) in let b : times n w'.numbers ≡ times n (w.numbers ++ numbers s) = ap (times n) numbers_are in omega arith) in
       let keep : (ns : List ℕ) (l : List I) → KnowsAll g.number w ns l → KnowsAll g.number w' ns l = λ ns l f n h.
-          (has_old n (f n h).0, (f n h).1 ∙ own_old n (f n h).0) in
+      (has_old n (f n h).0, (f n h).1 ∙ own_old n (f n h).0) in
       record {
         outside = ap (λ (x : View I O). x.inside) is ∙ k.outside;
         nothing_more = ap (λ (x : View I O). x.more) is;
@@ -82,5 +82,5 @@ module _ {T I O : Type 0} {g : Ghosts T I O} where
         only = λ n h. dite (dec_le 1 (times n w.numbers))
             (λ here. ⊎_elim inl (λ some_seat. inr (any_there (λ x. Has (numbers x) n) s done some_seat)) (k.only n here))
             (λ no. inr (any_here (λ x. Has (numbers x) n) s done
-                (let a = times-append n w.numbers (numbers s) in let b : times n w'.numbers ≡ times n (w.numbers ++ numbers s) = ap (times n) numbers_are in omega arith)));
+            (let a = times-append n w.numbers (numbers s) in let b : times n w'.numbers ≡ times n (w.numbers ++ numbers s) = ap (times n) numbers_are in omega arith)));
       }

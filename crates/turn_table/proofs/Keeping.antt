@@ -48,8 +48,8 @@ module _ {T I O : Type 0} (entries : T → List I) (origin_of : T → O) (number
       → (j : ℕ) (u : View I O) → get_elem? (set views id w) j ≡ some u → F u
   each_set F views id w mine others j u e =
       ⊎_elim (λ (x : (j ≡ id) × (w ≡ u)). subst F x.1 mine)
-          (λ (x : (j ≢ id) × (get_elem? views j ≡ some u)). others j u x.0 x.1)
-          (at_set views id j w u e)
+      (λ (x : (j ≢ id) × (get_elem? views j ≡ some u)). others j u x.0 x.1)
+      (at_set views id j w u e)
 
   -- two views don't have one number
   apart : (s : State T (View I O)) → Rule s → (i j : ℕ) (v w : View I O) → i ≢ j
@@ -75,9 +75,9 @@ module _ {T I O : Type 0} (entries : T → List I) (origin_of : T → O) (number
   out_set s id v w ws at stays out =
       let j = out.1.0 in let u = out.1.1 in
       dite (ℕ_discrete j id)
-          (λ same. let u_is : u ≡ v = the_same s.views id j v u at out.1.2 same in
-              (out.0, (id, w, here_set s.views id v w at, stays (ap (λ (x : View I O). x.inside) (sym u_is) ∙ out.1.3))))
-          (λ ne. (out.0, (j, u, there_set s.views id j w u (λ e. ne (sym e)) out.1.2, out.1.3)))
+      (λ same. let u_is : u ≡ v = the_same s.views id j v u at out.1.2 same in
+      (out.0, (id, w, here_set s.views id v w at, stays (ap (λ (x : View I O). x.inside) (sym u_is) ∙ out.1.3))))
+      (λ ne. (out.0, (j, u, there_set s.views id j w u (λ e. ne (sym e)) out.1.2, out.1.3)))
 
   -- one view changes, and nothing else
   changed : (s : State T (View I O)) (k : Rule s) (id : ℕ) (v w : View I O) → get_elem? s.views id ≡ some v
@@ -143,7 +143,7 @@ module _ {T I O : Type 0} (entries : T → List I) (origin_of : T → O) (number
     named = k.named;
     value = match_map (k.word == 0) _ _ _ _ (λ h. h)
         (λ out. let o = out_set s id v l s.words at stays out in
-            (o.0, (o.1.0, o.1.1, at_longer (set s.views id l) (r ∷ []) o.1.0 o.1.1 o.1.2, o.1.3)))
+        (o.0, (o.1.0, o.1.1, at_longer (set s.views id l) (r ∷ []) o.1.0 o.1.1 o.1.2, o.1.3)))
         k.value;
   }
 
@@ -155,49 +155,49 @@ module _ {T I O : Type 0} (entries : T → List I) (origin_of : T → O) (number
       let more0 : (n : ℕ) → times n v.more ≡ 0 = λ n. ap (times n) no_more in
       let len0 : length v.more ≡ 0 = ap length no_more in
       parts s k id v (left v) (right v) at
-          (λ f. (
-            record {
-              seen = f.seen;
-              told = f.told;
-              own_seen = λ n h. f.own_seen n (let t = times_cut n v.numbers nonempty in omega arith);
-              own_told = f.own_told;
-              origin_is = f.origin_is;
-              inside = λ e. absurd (true≢false (sym e ∙ outside));
-              seats_is = λ h. f.seats_is nonempty;
-            },
-            record {
-              seen = f.seen;
-              told = (k.log, refl);
-              own_seen = λ n h. f.own_seen n (let t = times_cut n v.numbers nonempty in omega arith);
-              own_told = λ n h. absurd (omega arith);
-              inside = λ e. absurd (true≢false (sym e));
-              origin_is = f.origin_is;
-              seats_is = λ h. f.seats_is nonempty;
-            },
-          ))
-          (λ n. let t = times_cut n v.numbers nonempty in let m = more0 n in omega arith)
-          (let t = length_cut v.numbers nonempty in omega arith)
-          (λ e. e)
+      (λ f. (
+        record {
+          seen = f.seen;
+          told = f.told;
+          own_seen = λ n h. f.own_seen n (let t = times_cut n v.numbers nonempty in omega arith);
+          own_told = f.own_told;
+          origin_is = f.origin_is;
+          inside = λ e. absurd (true≢false (sym e ∙ outside));
+          seats_is = λ h. f.seats_is nonempty;
+        },
+        record {
+          seen = f.seen;
+          told = (k.log, refl);
+          own_seen = λ n h. f.own_seen n (let t = times_cut n v.numbers nonempty in omega arith);
+          own_told = λ n h. absurd (omega arith);
+          inside = λ e. absurd (true≢false (sym e));
+          origin_is = f.origin_is;
+          seats_is = λ h. f.seats_is nonempty;
+        },
+      ))
+      (λ n. let t = times_cut n v.numbers nonempty in let m = more0 n in omega arith)
+      (let t = length_cut v.numbers nonempty in omega arith)
+      (λ e. e)
 
   -- note: a view with the same seen list and no number
   pub notes : (id : ℕ) (v : View I O) → Splits Rule id v v (noted v)
   notes id v s k at =
       parts s k id v v (noted v) at
-          (λ f. (
-            f,
-            record {
-              seen = f.seen;
-              told = (k.log, refl);
-              own_seen = λ n h. absurd (omega arith);
-              own_told = λ n h. absurd (omega arith);
-              inside = λ e. absurd (true≢false (sym e));
-              origin_is = f.origin_is;
-              seats_is = λ h. absurd (omega arith);
-            },
-          ))
-          (λ n. omega arith)
-          (omega arith)
-          (λ e. e)
+      (λ f. (
+        f,
+        record {
+          seen = f.seen;
+          told = (k.log, refl);
+          own_seen = λ n h. absurd (omega arith);
+          own_told = λ n h. absurd (omega arith);
+          inside = λ e. absurd (true≢false (sym e));
+          origin_is = f.origin_is;
+          seats_is = λ h. absurd (omega arith);
+        },
+      ))
+      (λ n. omega arith)
+      (omega arith)
+      (λ e. e)
 
   -- a load: what was told is taken in
   pub learns : (slots id : ℕ) (v : View I O) (c : List (ℕ × T)) → v.inside ≡ false → 0 < length v.numbers
@@ -209,8 +209,8 @@ module _ {T I O : Type 0} (entries : T → List I) (origin_of : T → O) (number
       let old = λ (n : ℕ) (h : Has v.numbers n). own_between number n k.log most v.seen both.0 both.1 (f.own_seen n h) in
       let new = λ (n : ℕ) (h : Has v.more n). own_between number n k.log most v.told both.0 both.2 (f.own_told n h) in
       let either_way : (n : ℕ) → Has (v.numbers ++ v.more) n → own number n most ≡ own number n k.log = λ n h.
-          dite (dec_le 1 (times n v.numbers)) (λ here. sym (old n here) ∙ f.own_seen n here)
-              (λ no. let t = times-append n v.numbers v.more in let here : Has v.more n = omega arith in sym (new n here) ∙ f.own_told n here) in (
+      dite (dec_le 1 (times n v.numbers)) (λ here. sym (old n here) ∙ f.own_seen n here)
+      (λ no. let t = times-append n v.numbers v.more in let here : Has v.more n = omega arith in sym (new n here) ∙ f.own_told n here) in (
         learned v,
         keeps,
         tt,
@@ -273,8 +273,8 @@ module _ {T I O : Type 0} (entries : T → List I) (origin_of : T → O) (number
         named = k.named;
         value = match_map (k.word == 0) _ _ _ _ (λ h. h)
             (λ out. out_set record { words = s.words; homes = s.homes; views = set s.views id (told v w) } other w spent s.words there
-                (λ e. absurd (true≢false (sym e ∙ outside')))
-                (out_set s id v (told v w) s.words at (λ e. e) out))
+            (λ e. absurd (true≢false (sym e ∙ outside')))
+            (out_set s id v (told v w) s.words at (λ e. e) out))
             k.value;
       }
 
@@ -297,85 +297,85 @@ module _ {T I O : Type 0} (entries : T → List I) (origin_of : T → O) (number
       let f = k.each id v at in
       let n_is : slice_index s.words 1 ≡ k.word = ap (λ ws. slice_index ws 1) k.words_are in
       let Q : Bool → ℕ → Type 0 = λ b n. (w : View I O) × (a : Act T) × Valid s.homes [] a
-          × Rule (stepped s 1 (either b (first + 1) n) id [] w a)
-          × MatchBool b (Wins entries origin_of number (v, []) (w, carried_after [] a)) (Loses entries origin_of number (v, []) n (w, carried_after [] a)) in
+      × Rule (stepped s 1 (either b (first + 1) n) id [] w a)
+      × MatchBool b (Wins entries origin_of number (v, []) (w, carried_after [] a)) (Loses entries origin_of number (v, []) n (w, carried_after [] a)) in
       let free : k.word ≡ 0 → Q true 0 = λ z.
-          let home = at_home s k z in
-          let y = home.0 in
-          let w : View I O = record v { seen = entries y; inside = true; words = v.words ++ 0 ∷ [] } in (
-            w,
-            takes 0 y,
-            ap (λ hs. get_elem? hs 0) home.1,
-            record {
-              log = k.log;
-              word = first + 1;
-              words_are = ap (λ ws. set ws 1 (first + 1)) k.words_are;
-              each = each_set (Fits k.log (first + 1)) s.views id w
-                  record {
-                    seen = ([], sym home.2 ∙ sym (append-nil (entries y)));
-                    told = f.told;
-                    own_seen = λ n h. ap (own number n) home.2;
-                    own_told = f.own_told;
-                    inside = λ _. (refl, has, home.2);
-                    origin_is = f.origin_is;
-                    seats_is = f.seats_is;
-                  }
-                  (λ j u ne e. let g = k.each j u e in record {
-                    seen = g.seen;
-                    told = g.told;
-                    own_seen = g.own_seen;
-                    own_told = g.own_told;
-                    inside = λ i. absurd (let x = (g.inside i).0 in omega arith);
-                    origin_is = g.origin_is;
-                    seats_is = g.seats_is;
-                  });
-              dealt = λ n. let t = total_set (has_times n) s.views id v w at in let d = k.dealt n in omega arith;
-              whole = (let t = total_set how_many s.views id v w at in let d = k.whole in omega arith);
-              named = k.named;
-              value = (let after = stepped s 1 (first + 1) id [] w (takes 0 y) in
-                  subst (λ b. MatchBool b (AtHome entries origin_of number origin k.log after) (Out entries origin_of number after))
-                      (sym (one_more first)) (ap (λ hs. set hs 0 none) home.1, (id, w, here_set s.views id v w at, refl)));
-            },
-            (
-              y,
-              refl,
-              is ∙ ap Some (sym home.3),
-              refl,
-              (f.seen.0, home.2 ∙ f.seen.1),
-              λ n h. f.own_seen n h ∙ ap (own number n) (sym home.2),
-            ),
-          ) in
+      let home = at_home s k z in
+      let y = home.0 in
+      let w : View I O = record v { seen = entries y; inside = true; words = v.words ++ 0 ∷ [] } in (
+        w,
+        takes 0 y,
+        ap (λ hs. get_elem? hs 0) home.1,
+        record {
+          log = k.log;
+          word = first + 1;
+          words_are = ap (λ ws. set ws 1 (first + 1)) k.words_are;
+          each = each_set (Fits k.log (first + 1)) s.views id w
+              record {
+                seen = ([], sym home.2 ∙ sym (append-nil (entries y)));
+                told = f.told;
+                own_seen = λ n h. ap (own number n) home.2;
+                own_told = f.own_told;
+                inside = λ _. (refl, has, home.2);
+                origin_is = f.origin_is;
+                seats_is = f.seats_is;
+              }
+              (λ j u ne e. let g = k.each j u e in record {
+                seen = g.seen;
+                told = g.told;
+                own_seen = g.own_seen;
+                own_told = g.own_told;
+                inside = λ i. absurd (let x = (g.inside i).0 in omega arith);
+                origin_is = g.origin_is;
+                seats_is = g.seats_is;
+              });
+          dealt = λ n. let t = total_set (has_times n) s.views id v w at in let d = k.dealt n in omega arith;
+          whole = (let t = total_set how_many s.views id v w at in let d = k.whole in omega arith);
+          named = k.named;
+          value = (let after = stepped s 1 (first + 1) id [] w (takes 0 y) in
+              subst (λ b. MatchBool b (AtHome entries origin_of number origin k.log after) (Out entries origin_of number after))
+              (sym (one_more first)) (ap (λ hs. set hs 0 none) home.1, (id, w, here_set s.views id v w at, refl)));
+        },
+        (
+          y,
+          refl,
+          is ∙ ap Some (sym home.3),
+          refl,
+          (f.seen.0, home.2 ∙ f.seen.1),
+          λ n h. f.own_seen n h ∙ ap (own number n) (sym home.2),
+        ),
+      ) in
       let lost : k.word ≢ 0 → Q false k.word = λ ne.
-          let out = taken s k ne in
-          let j = out.1.0 in let u = out.1.1 in let g = k.each j u out.1.2 in let there = g.inside out.1.3 in
-          let other = not_in s id j v u at out.1.2 outside out.1.3 in
-          let w : View I O = record v { words = v.words ++ k.word ∷ [] } in (
-            w,
-            keeps,
-            tt,
-            changed s k id v w at _ (ap (λ ws. set ws 1 k.word) k.words_are)
-                (λ _. record {
-                  seen = f.seen;
-                  told = f.told;
-                  own_seen = f.own_seen;
-                  own_told = f.own_told;
-                  inside = f.inside;
-                  origin_is = f.origin_is;
-                  seats_is = f.seats_is;
-                })
-                (λ n. refl) refl (λ e. e),
-            (
-              refl,
-              (λ e. apart s k id j v u other at out.1.2 first (omega arith)
-                  (let same : first_of u.numbers ≡ first = (let x = there.0 in omega arith) in
-                    let h = subst (λ m. Has u.numbers m) same there.1 in omega arith)),
-              (λ e. let two = total_two how_many s.views id j v u other at out.1.2 in let all = k.whole in
-                  let mine = f.seats_is (has_length first v.numbers has) in
-                  let theirs = has_length (first_of u.numbers) u.numbers there.1 in omega arith),
-            ),
-          ) in
+      let out = taken s k ne in
+      let j = out.1.0 in let u = out.1.1 in let g = k.each j u out.1.2 in let there = g.inside out.1.3 in
+      let other = not_in s id j v u at out.1.2 outside out.1.3 in
+      let w : View I O = record v { words = v.words ++ k.word ∷ [] } in (
+        w,
+        keeps,
+        tt,
+        changed s k id v w at _ (ap (λ ws. set ws 1 k.word) k.words_are)
+            (λ _. record {
+              seen = f.seen;
+              told = f.told;
+              own_seen = f.own_seen;
+              own_told = f.own_told;
+              inside = f.inside;
+              origin_is = f.origin_is;
+              seats_is = f.seats_is;
+            })
+            (λ n. refl) refl (λ e. e),
+        (
+          refl,
+          (λ e. apart s k id j v u other at out.1.2 first (omega arith)
+              (let same : first_of u.numbers ≡ first = (let x = there.0 in omega arith) in
+              let h = subst (λ m. Has u.numbers m) same there.1 in omega arith)),
+          (λ e. let two = total_two how_many s.views id j v u other at out.1.2 in let all = k.whole in
+              let mine = f.seats_is (has_length first v.numbers has) in
+              let theirs = has_length (first_of u.numbers) u.numbers there.1 in omega arith),
+        ),
+      ) in
       subst (λ n. Q (n == 0) n) (sym n_is)
-          (dite (ℕ_discrete k.word 0) (λ z. subst (λ n. Q (n == 0) n) (sym z) (free z)) (λ ne. subst (λ b. Q b k.word) (sym (ne_eqb k.word 0 ne)) (lost ne)))
+      (dite (ℕ_discrete k.word 0) (λ z. subst (λ n. Q (n == 0) n) (sym z) (free z)) (λ ne. subst (λ b. Q b k.word) (sym (ne_eqb k.word 0 ne)) (lost ne)))
 
   -- where one view is in the turn, no other is
   alone : (s : State T (View I O)) (k : Rule s) (id j : ℕ) (v u : View I O) → j ≢ id → get_elem? s.views id ≡ some v → get_elem? s.views j ≡ some u
@@ -399,11 +399,11 @@ module _ {T I O : Type 0} (entries : T → List I) (origin_of : T → O) (number
       let n_is : slice_index s.words 0 ≡ length k.log = ap (λ ws. slice_index ws 0) k.words_are in
       let more : length (entries y) ≡ length k.log + 1 = ap length log_is ∙ length-append k.log (x ∷ []) in
       let sum : (length k.log + 1) % 2 ^ 64 ≡ length (entries y) =
-          ap (λ n. n % 2 ^ 64) (sym more) ∙ mod-eq_of_lt fits in
+      ap (λ n. n % 2 ^ 64) (sym more) ∙ mod-eq_of_lt fits in
       let w : View I O = record v { seen = entries y } in
       let mine : Has v.numbers (number x) = subst (λ m. Has v.numbers m) (sym names) there.1 in
       let below : number x < seats = some_below (number x) seats
-          (let one = total_one (has_times (number x)) s.views id v at in let d = k.dealt (number x) in omega arith) in
+      (let one = total_one (has_times (number x)) s.views id v at in let d = k.dealt (number x) in omega arith) in
       let P : I → Type 0 = λ z. number z < seats in
       let busy : k.word ≢ 0 = λ z. (let e = there.0 in omega arith) in
       let ws : List ℕ = set s.words 0 ((slice_index s.words 0 + 1) % 2 ^ 64) in
@@ -426,18 +426,18 @@ module _ {T I O : Type 0} (entries : T → List I) (origin_of : T → O) (number
                 seats_is = f.seats_is;
               }
               (λ j u ne e. let g = k.each j u e in
-                let others : (n : ℕ) → 0 < has_times n u → own number n (entries y) ≡ own number n k.log = λ n h.
-                    ap (own number n) log_is ∙ own_else number n k.log x
-                        (λ same. apart s k id j v u (λ i. ne (sym i)) at e n (let m = subst (λ (i : ℕ). Has v.numbers i) same mine in omega arith) h) in
-                record {
-                  seen = subst (λ l. BeginsWith l u.seen) (sym log_is) (begins_more k.log u.seen (x ∷ []) g.seen);
-                  told = subst (λ l. BeginsWith l u.told) (sym log_is) (begins_more k.log u.told (x ∷ []) g.told);
-                  own_seen = λ n h. g.own_seen n h ∙ sym (others n (omega arith));
-                  own_told = λ n h. g.own_told n h ∙ sym (others n (omega arith));
-                  inside = λ i. absurd (alone s k id j v u ne at e inside i);
-                  origin_is = g.origin_is;
-                  seats_is = g.seats_is;
-                });
+              let others : (n : ℕ) → 0 < has_times n u → own number n (entries y) ≡ own number n k.log = λ n h.
+              ap (own number n) log_is ∙ own_else number n k.log x
+              (λ same. apart s k id j v u (λ i. ne (sym i)) at e n (let m = subst (λ (i : ℕ). Has v.numbers i) same mine in omega arith) h) in
+              record {
+                seen = subst (λ l. BeginsWith l u.seen) (sym log_is) (begins_more k.log u.seen (x ∷ []) g.seen);
+                told = subst (λ l. BeginsWith l u.told) (sym log_is) (begins_more k.log u.told (x ∷ []) g.told);
+                own_seen = λ n h. g.own_seen n h ∙ sym (others n (omega arith));
+                own_told = λ n h. g.own_told n h ∙ sym (others n (omega arith));
+                inside = λ i. absurd (alone s k id j v u ne at e inside i);
+                origin_is = g.origin_is;
+                seats_is = g.seats_is;
+              });
           dealt = λ n. let t = total_set (has_times n) s.views id v w at in let d = k.dealt n in omega arith;
           whole = (let t = total_set how_many s.views id v w at in let d = k.whole in omega arith);
           named = subst (All P) (sym log_is) (All-append P k.log (x ∷ []) k.named (All-cons P x [] below (All-nil P)));
@@ -495,43 +495,43 @@ module _ {T I O : Type 0} (entries : T → List I) (origin_of : T → O) (number
       → Allows Rule slots id me 0 (λ n. (n + 1) % 2 ^ 64) (Counts entries origin_of number any me)
   counts_at slots id me y x has inside no_more grown names fits =
       subst (λ (c : List (ℕ × T)). Allows Rule slots id (me.0, c) 0 (λ n. (n + 1) % 2 ^ 64) (Counts entries origin_of number any (me.0, c))) (sym has)
-          (counts slots id me.0 y x inside no_more grown names fits)
+      (counts slots id me.0 y x inside no_more grown names fits)
 
   pub frees_at : (slots id : ℕ) (me : Me T (View I O)) (y : T) → me.1 ≡ (0, y) ∷ [] → me.0.inside ≡ true → entries y ≡ me.0.seen → origin_of y ≡ origin
       → Allows Rule slots id me 1 (λ _. 0) (Frees entries origin_of number any me)
   frees_at slots id me y has inside is origin_is' =
       subst (λ (c : List (ℕ × T)). Allows Rule slots id (me.0, c) 1 (λ _. 0) (Frees entries origin_of number any (me.0, c))) (sym has)
-          (frees slots id me.0 y inside is origin_is')
+      (frees slots id me.0 y inside is origin_is')
 
   -- what the end shows to a view that has all numbers
   pub closes : (words : List ℕ) (xs : List T) (id : ℕ) (v : View I O) → v.inside ≡ false → v.more ≡ [] → length v.numbers ≡ seats
       → Final (Seen Rule id v) words xs
       → (y : T) × (get_elem? xs 0 ≡ some y) × (origin_of y ≡ origin) × BeginsWith (entries y) v.seen
-        × ((n : ℕ) → Has v.numbers n → own number n v.seen ≡ own number n (entries y))
-        × ((n : ℕ) → n < seats → Has v.numbers n) × All (λ x. number x < seats) (entries y)
+      × ((n : ℕ) → Has v.numbers n → own number n v.seen ≡ own number n (entries y))
+      × ((n : ℕ) → n < seats → Has v.numbers n) × All (λ x. number x < seats) (entries y)
   closes words xs id v outside no_more all end =
       let s = end.0 in let k = end.1.0 in let at = end.1.1 in
       let f = k.each id v at in
       let no_more' : length v.more ≡ 0 = ap length no_more in
       let z : k.word ≡ 0 = dite (ℕ_discrete k.word 0) (λ e. e) (λ ne.
-          let out = taken s k ne in
-          let j = out.1.0 in let u = out.1.1 in
-          let there = (k.each j u out.1.2).inside out.1.3 in
-          let two = total_two how_many s.views id j v u (not_in s id j v u at out.1.2 outside out.1.3) at out.1.2 in
-          let w = k.whole in let theirs = has_length (first_of u.numbers) u.numbers there.1 in absurd (omega arith)) in
+      let out = taken s k ne in
+      let j = out.1.0 in let u = out.1.1 in
+      let there = (k.each j u out.1.2).inside out.1.3 in
+      let two = total_two how_many s.views id j v u (not_in s id j v u at out.1.2 outside out.1.3) at out.1.2 in
+      let w = k.whole in let theirs = has_length (first_of u.numbers) u.numbers there.1 in absurd (omega arith)) in
       let home = at_home s k z in
       let y = home.0 in
       let none : (n : ℕ) (u : View I O) → how_many u ≡ 0 → has_times n u ≡ 0 = λ n u e.
-          no_times n u.numbers u.more (omega arith) (omega arith) in (
+      no_times n u.numbers u.more (omega arith) (omega arith) in (
         y,
         end.4 0 y (ap (λ hs. get_elem? hs 0) home.1),
         home.3,
         (f.seen.0, home.2 ∙ f.seen.1),
         (λ n h. f.own_seen n h ∙ ap (own number n) (sym home.2)),
         (λ n h.
-          let same = total_alone (has_times n) how_many (none n) s.views id v at (let w = k.whole in omega arith) in
-          let d = k.dealt n in
-          let o : once_below n seats ≡ 1 = is_below n seats h in
-          let m : times n v.more ≡ 0 = ap (times n) no_more in omega arith),
+            let same = total_alone (has_times n) how_many (none n) s.views id v at (let w = k.whole in omega arith) in
+            let d = k.dealt n in
+            let o : once_below n seats ≡ 1 = is_below n seats h in
+            let m : times n v.more ≡ 0 = ap (times n) no_more in omega arith),
         subst (All (λ x. number x < seats)) (sym home.2) k.named,
       )

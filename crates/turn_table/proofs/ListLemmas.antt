@@ -57,10 +57,10 @@ module _ {I : Type 0} where
   longer_begins log a b p q =
       let P : List I → Type 0 = λ l. BeginsWith log l × BeginsWith l a × BeginsWith l b in
       dite (dec_le (length b) (length a))
-          (λ le. subst P (sym (longer_first a b le))
-              (p, begins_itself a, shorter b a q.0 p.0 (sym q.1 ∙ p.1) le))
-          (λ no. let lt : length a < length b = omega arith in subst P (sym (longer_second a b lt))
-              (q, shorter a b p.0 q.0 (sym p.1 ∙ q.1) (omega arith), begins_itself b))
+      (λ le. subst P (sym (longer_first a b le))
+      (p, begins_itself a, shorter b a q.0 p.0 (sym q.1 ∙ p.1) le))
+      (λ no. let lt : length a < length b = omega arith in subst P (sym (longer_second a b lt))
+      (q, shorter a b p.0 q.0 (sym p.1 ∙ q.1) (omega arith), begins_itself b))
 
   nothing_more : (xs ys : List I) → xs ≡ xs ++ ys → ys ≡ []
   nothing_more xs ys e =
@@ -74,9 +74,9 @@ module _ {I : Type 0} where
       let f : List I → List I = own number n in
       let m_is : f m ≡ f s ++ f b.0 = ap f b.1 ∙ filter-append (λ x. number x == n) s b.0 in
       let log_is : f log ≡ (f s ++ f b.0) ++ f a.0 =
-          ap f a.1 ∙ filter-append (λ x. number x == n) m a.0 ∙ ap (λ l. l ++ f a.0) m_is in
+      ap f a.1 ∙ filter-append (λ x. number x == n) m a.0 ∙ ap (λ l. l ++ f a.0) m_is in
       let none : f b.0 ++ f a.0 ≡ [] =
-          nothing_more (f s) (f b.0 ++ f a.0) (e ∙ log_is ∙ append_assoc (f s) (f b.0) (f a.0)) in
+      nothing_more (f s) (f b.0 ++ f a.0) (e ∙ log_is ∙ append_assoc (f s) (f b.0) (f a.0)) in
       let zero : length (f b.0 ++ f a.0) ≡ 0 = ap length none in
       let nil : f b.0 ≡ [] = nil_from_length (f b.0) (omega (arith, length-append (f b.0) (f a.0))) in
       sym (m_is ∙ ap (λ l. f s ++ l) nil ∙ append-nil (f s))
@@ -148,7 +148,7 @@ times_in : (n first count : ℕ) → first ≤ n → n < first + count → times
 times_in n first zero le lt = absurd (omega arith)
 times_in n first (suc count) le lt = dite (ℕ_discrete first n)
     (λ e. subst (λ m. times m (from first (suc count)) ≡ 1) e
-        (times_here first (from (suc first) count) ∙ ap (λ k. 1 + k) (times_below first (suc first) count (omega arith))))
+    (times_here first (from (suc first) count) ∙ ap (λ k. 1 + k) (times_below first (suc first) count (omega arith))))
     (λ ne. times_else n first (from (suc first) count) ne ∙ times_in n (suc first) count (omega arith) (omega arith))
 
 times_above : (n first count : ℕ) → first + count ≤ n → times n (from first count) ≡ 0
@@ -159,15 +159,15 @@ times_above n first (suc count) le =
 pub times-from : (n count : ℕ) → times n (from 0 count) ≡ once_below n count
 times-from n count = dite (dec_le (suc n) count)
     (λ lt. times_in n 0 count (omega arith) (omega arith)
-        ∙ ap (λ c. if c then 1 else 0) (sym (lt-ltb n count lt)))
+    ∙ ap (λ c. if c then 1 else 0) (sym (lt-ltb n count lt)))
     (λ no. times_above n 0 count (omega arith)
-        ∙ ap (λ c. if c then 1 else 0)
-            (sym (false_from_ne_true (nat_lt n count) (λ e. let lt = ltb-true n count e in no (omega arith)))))
+    ∙ ap (λ c. if c then 1 else 0)
+    (sym (false_from_ne_true (nat_lt n count) (λ e. let lt = ltb-true n count e in no (omega arith)))))
 
 pub some_below : (n seats : ℕ) → 0 < once_below n seats → n < seats
 some_below n seats h = dite (dec_le (suc n) seats) (λ lt. lt)
     (λ no. absurd (let z : once_below n seats ≡ 0 = ap (λ c. if c then 1 else 0)
-        (false_from_ne_true (nat_lt n seats) (λ e. let lt = ltb-true n seats e in no (omega arith))) in omega arith))
+    (false_from_ne_true (nat_lt n seats) (λ e. let lt = ltb-true n seats e in no (omega arith))) in omega arith))
 
 pub is_below : (n seats : ℕ) → n < seats → once_below n seats ≡ 1
 is_below n seats lt = ap (λ c. if c then 1 else 0) (lt-ltb n seats lt)
@@ -181,7 +181,7 @@ pub at_most_once : (n seats : ℕ) → once_below n seats ≤ 1
 at_most_once n seats = dite (dec_le (suc n) seats)
     (λ lt. let e : once_below n seats ≡ 1 = ap (λ c. if c then 1 else 0) (lt-ltb n seats lt) in omega arith)
     (λ no. let z : once_below n seats ≡ 0 = ap (λ c. if c then 1 else 0)
-        (false_from_ne_true (nat_lt n seats) (λ e. let lt = ltb-true n seats e in no (omega arith))) in omega arith)
+    (false_from_ne_true (nat_lt n seats) (λ e. let lt = ltb-true n seats e in no (omega arith))) in omega arith)
 
 pub has_length : (n : ℕ) (ms : List ℕ) → Has ms n → 0 < length ms
 has_length n [] h = absurd (omega arith)

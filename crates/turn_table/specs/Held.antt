@@ -12,5 +12,6 @@ module _ {T I O : Type 0} (g : Ghosts T I O) where
   -- an act left z of y, and the list has an entry more of this number if it grew
   abbrev pub Ran : ℕ → Bool → T → T → Type 0
   Ran number grew y z = (g.origin z ≡ g.origin y)
-      × MatchBool grew (Adds g.number number (g.entries y) (g.entries z)) (g.entries z ≡ g.entries y)
+      × MatchBool grew
+      (Adds g.number number (g.entries y) (g.entries z)) (g.entries z ≡ g.entries y)
       × (length (g.entries z) < 2 ^ 64)

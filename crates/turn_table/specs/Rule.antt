@@ -32,7 +32,8 @@ in_hand entries (x ∷ xs) = entries x.1
 
 module _ {T I O : Type 0} (entries : T → List I) (origin_of : T → O) (number : I → ℕ) where
   -- What the rule says of one view. Both lists are beginnings of the history, and have all entries
-  -- of the numbers that came with them. In the turn it has seen all, and the word names its first number
+  -- of the numbers that came with them. In the turn it has seen all, and the word is one more than
+  -- its first number
   pub record Knows (origin : O) (seats : ℕ) (log : List I) (word : ℕ) (v : View I O) : Type 0 where
     pub seen : BeginsWith log v.seen
     pub told : BeginsWith log v.told
@@ -45,13 +46,16 @@ module _ {T I O : Type 0} (entries : T → List I) (origin_of : T → O) (number
 
   -- the value is at home, and its list is the history
   abbrev pub AtHome : O → List I → State T (View I O) → Type 0
-  AtHome origin log s = (y : T) × (s.homes ≡ some y ∷ []) × (entries y ≡ log) × (origin_of y ≡ origin)
+  AtHome origin log s =
+      (y : T) × (s.homes ≡ some y ∷ []) × (entries y ≡ log) × (origin_of y ≡ origin)
 
   -- the value is out, and some view is in the turn
   abbrev pub Out : State T (View I O) → Type 0
-  Out s = (s.homes ≡ none ∷ []) × ((j : ℕ) × (v : View I O) × (get_elem? s.views j ≡ some v) × (v.inside ≡ true))
+  Out s = (s.homes ≡ none ∷ [])
+      × ((j : ℕ) × (v : View I O) × (get_elem? s.views j ≡ some v) × (v.inside ≡ true))
 
-  -- The turn's rule. Each number below `seats` belongs to one view, and each entry names such a number
+  -- The turn's rule. Each number below `seats` belongs to one view, and each entry names such a
+  -- number
   pub record Kept (origin : O) (seats : ℕ) (s : State T (View I O)) : Type 0 where
     pub log : List I
     pub word : ℕ
@@ -92,6 +96,6 @@ module _ {T I O : Type 0} (entries : T → List I) (origin_of : T → O) (number
       × BeginsWith (longer me.0.seen me.0.told) me.0.seen
       × BeginsWith (longer me.0.seen me.0.told) me.0.told
       × ((n : ℕ) → Has me.0.numbers n
-          → own number n me.0.seen ≡ own number n (longer me.0.seen me.0.told))
+      → own number n me.0.seen ≡ own number n (longer me.0.seen me.0.told))
       × ((n : ℕ) → Has me.0.more n
-          → own number n me.0.told ≡ own number n (longer me.0.seen me.0.told))
+      → own number n me.0.told ≡ own number n (longer me.0.seen me.0.told))

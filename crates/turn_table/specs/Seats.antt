@@ -50,5 +50,5 @@ module _ {T I O : Type 0} {g : Ghosts T I O} where
       × BeginsWith before (seen old)
       × relation act act' origin before (seen new) reply
       × MatchBool (adds reply)
-          (MakesEntry before old new)
-          ((seen new ≡ before) × (mine new ≡ mine old))
+      (MakesEntry before old new)
+      ((seen new ≡ before) × (mine new ≡ mine old))

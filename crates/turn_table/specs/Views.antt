@@ -7,8 +7,15 @@ module _ {I O : Type 0} where
   -- the first seat, which has all numbers below this
   abbrev pub opened : ℕ → O → View I O
   opened seats origin = record {
-    seen = []; told = []; numbers = from 0 seats; more = []; inside = false; words = [];
-    seats = seats; origin = Some origin }
+    seen = [];
+    told = [];
+    numbers = from 0 seats;
+    more = [];
+    inside = false;
+    words = [];
+    seats = seats;
+    origin = Some origin;
+  }
 
   -- it keeps all numbers but the last
   abbrev pub left : View I O → View I O
@@ -17,7 +24,12 @@ module _ {I O : Type 0} where
   -- a new seat with the last number
   abbrev pub right : View I O → View I O
   right v = record v {
-    told = []; numbers = last_of v.numbers ∷ []; more = []; inside = false; words = [] }
+    told = [];
+    numbers = last_of v.numbers ∷ [];
+    more = [];
+    inside = false;
+    words = [];
+  }
 
   -- a note: it has seen the same, and has no number
   abbrev pub noted : View I O → View I O
@@ -30,10 +42,21 @@ module _ {I O : Type 0} where
   -- what is left of one that was taken in
   abbrev pub spent : View I O
   spent = record {
-    seen = []; told = []; numbers = []; more = []; inside = false; words = []; seats = 0;
-    origin = None }
+    seen = [];
+    told = [];
+    numbers = [];
+    more = [];
+    inside = false;
+    words = [];
+    seats = 0;
+    origin = None;
+  }
 
   -- it has taken in what it was told
   abbrev pub learned : View I O → View I O
   learned v = record v {
-    seen = longer v.seen v.told; told = []; numbers = v.numbers ++ v.more; more = [] }
+    seen = longer v.seen v.told;
+    told = [];
+    numbers = v.numbers ++ v.more;
+    more = [];
+  }

@@ -1,4 +1,5 @@
-//! One value that running threads take in turn. Who was told of an entry of its list finds the entry in every later turn.
+//! One value that running threads take in turn. Who was told of an entry of its list finds the
+//! entry in every later turn.
 #![tactic(auto)]
 
 mod plays;

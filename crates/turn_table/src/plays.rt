@@ -1,10 +1,10 @@
 //! What each step on the table tells.
+ghost use Rattle.turn_table.specs.Rule.{Tries, Counts, Frees, Learns};
+ghost use Rattle.turn_table.specs.Views.{left, right, noted, told, spent};
+
 use crate::stories::Story;
 use crate::views::View;
 use atomic_table::{Join, Play, Split};
-
-ghost use Rattle.turn_table.specs.Rule.{Tries, Counts, Frees, Learns};
-ghost use Rattle.turn_table.specs.Views.{left, right, noted, told, spent};
 
 pub struct Try;
 

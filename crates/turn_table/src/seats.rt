@@ -4,7 +4,8 @@ ghost use Rattle.turn_table.specs.Away.{IsAway, NoneElse};
 use crate::stories::Story;
 use crate::views::Place;
 
-/// A seat at a turn: what one thread has seen of the story, and some numbers, of which its entries name the first.
+/// A seat at a turn: what one thread has seen of the story, and some numbers, of which its entries
+/// name the first.
 pub struct Seat<T: Story> {
     pub(crate) place: Place<T>,
     pub(crate) first: u32,

@@ -57,7 +57,8 @@ pub(crate) fn run_here<T: Story, A: Act<T>>(
     requires value { HasValue place.old.me (λ y. Unit {0}) }
     ensures place { (place.new.table_id ≡ place.old.table_id) × (place.new.id ≡ place.old.id)
         × (place.new.me.0 ≡ place.old.me.0) }
-    ensures ran { HasValue place.old.me (λ y. HasValue place.new.me (λ z. Ran T.Story number result.1 y z
+    ensures ran { HasValue place.old.me (λ y. HasValue place.new.me (λ z.
+        Ran T.Story number result.1 y z
         × A.relation act.old act.new (T.origin y) (T.entries y) (T.entries z) result.0)) }
     ensures told { result.1 ≡ A.adds result.0 }
 {
@@ -74,11 +75,15 @@ pub(crate) fn count_entry<T: Story>(top: &Top<T>, place: &mut Place<T>, grew: bo
     requires inside { (place.old.me.0.inside ≡ true) × (place.old.me.0.more ≡ []) }
     requires value { HasValue place.old.me (λ y. (length (T.entries y) < 2 ^ 64)
         × MatchBool grew
-            (Adds T.number (first_of place.old.me.0.numbers) place.old.me.0.seen (T.entries y))
-            (T.entries y ≡ place.old.me.0.seen)) }
+        (Adds T.number (first_of place.old.me.0.numbers) place.old.me.0.seen (T.entries y))
+        (T.entries y ≡ place.old.me.0.seen)) }
     ensures place { (place.new.table_id ≡ place.old.table_id) × (place.new.id ≡ place.old.id) }
-    ensures seen { place.new.me ≡ (record place.old.me.0 {
-        seen = in_hand T.entries place.old.me.1 }, place.old.me.1) }
+    ensures seen { place.new.me ≡ (
+      record place.old.me.0 {
+        seen = in_hand T.entries place.old.me.1;
+      },
+      place.old.me.1,
+    ) }
 {
     if grew {
         top.fetch_add::<Count>(place, 0, 1);

@@ -25,13 +25,15 @@ pub trait Story {
 pub trait Act<T: Story> {
     type Reply;
 
-    /// The act's relation: of the act before and after, the origin, the entries before and after, and the reply.
+    /// What the act is to do: of the act before and after, the origin, the entries before and after,
+    /// and the reply.
     ghost relation: { Self → Self → T.Origin → List T.Item → List T.Item → Self.Reply → Type 0 };
 
     /// Whether a reply tells of a new entry.
     ghost adds: { Self.Reply → Bool };
 
-    /// Does the act in the name of `number`. The list stays, or has one entry more, which names `number`.
+    /// Does the act in the name of `number`. The list stays, or has one entry more, which names
+    /// `number`.
     fn run(&mut self, story: &mut T, number: u32) -> Self::Reply
         ensures origin { T.origin story.new ≡ T.origin story.old }
         ensures list { MatchBool (adds result)

@@ -1,13 +1,13 @@
+ghost use Rattle.std.specs.Prelude.{◌≡◌, List, ℕ, false, length, is_ok, IfOk, IfSome, true, ◌<◌};
+ghost use Rattle.std.specs.Thread.{IsSync};
+ghost use Rattle.turn_table.specs.Turns.{seats_of, HasOne, IsNoteOf};
+ghost use Rattle.turn_table.specs.Seats.{told_by};
+
 use crate::{Act, Note, Seat, Story, Turn};
 use std::alloc::{AllocError, Global};
 use std::sync::Wait;
 use std::test::Fail;
 use std::thread::{Threads, join};
-
-ghost use Rattle.std.specs.Prelude.{◌≡◌, List, ℕ, false, length, is_ok, IfOk, IfSome, true, ◌<◌};
-ghost use Rattle.std.specs.Thread.{IsSync};
-ghost use Rattle.turn_table.specs.Turns.{seats_of, HasOne, IsNoteOf};
-ghost use Rattle.turn_table.specs.Seats.{told_by};
 
 // Numbers that threads append, each beside the number of the seat.
 #[derive(Drop)]
@@ -17,10 +17,13 @@ struct Row {
 
 impl Story for Row {
     type Item = (u32, u64);
+
     type Origin = ();
 
     ghost origin = { λ s. tt };
+
     ghost entries = { λ s. s.entries.items };
+
     ghost number = { λ x. x.0 };
 
     fn count(&self) -> u64 {
@@ -38,6 +41,7 @@ impl Act<Row> for Append {
     type Reply = Result<u64, AllocError>;
 
     ghost relation = { λ a b o before after r. IfOk r (λ place. place ≡ length before) };
+
     ghost adds = { is_ok };
 
     fn run(&mut self, story: &mut Row, number: u32) -> Result<u64, AllocError> {
@@ -55,6 +59,7 @@ impl Act<Row> for Look {
     type Reply = u64;
 
     ghost relation = { λ a b o before after r. r ≡ length before };
+
     ghost adds = { λ r. false };
 
     fn run(&mut self, story: &mut Row, _number: u32) -> u64 {
@@ -67,7 +72,8 @@ type Four = (Turn<Row>, Seat<Row>, Seat<Row>, Seat<Row>, Seat<Row>);
 // A turn over an empty row, and four seats with a number each.
 fn four_seats(alloc: Global) -> Option<Four>
     ensures turn { IfSome result (λ r. seats_of r.0 ≡ 4) }
-    ensures seats { IfSome result (λ r. HasOne r.0 r.1 × HasOne r.0 r.2 × HasOne r.0 r.3 × HasOne r.0 r.4) }
+    ensures seats { IfSome result (λ r. HasOne r.0 r.1 × HasOne r.0 r.2
+        × HasOne r.0 r.3 × HasOne r.0 r.4) }
 {
     let row = Row {
         entries: Vec::new(alloc),
@@ -212,7 +218,8 @@ fn told<R: Threads + Wait + Sync>(rt: &R, alloc: Global) -> Option<bool>
     let (found, ()) = join(
         rt,
         || -> bool
-            requires { HasOne here.now b × IsNoteOf here.now note × (place < length (told_by note)) }
+            requires { HasOne here.now b × IsNoteOf here.now note
+                × (place < length (told_by note)) }
             ensures { result ≡ true }
         { hear_and_find(rt, here, b, note, place) },
         || (),

@@ -1,3 +1,6 @@
+ghost use Rattle.std.specs.Prelude.{◌≡◌, ◌≢◌, ◌+◌, ◌<◌, ◌≤◌, [], ◌∷◌, ◌++◌, length, All, Any, IfOk, IfErr, IsOk};
+ghost use Rattle.turn_table.specs.Lists.{BeginsWith, longer, own, from, last_of};
+
 use crate::plays::{Copied, Deal, Try};
 use crate::seats::{Busy, Note, OpenEnd, Seat};
 use crate::steps::{count_entry, leave, one_slot, only, run_here, take_in, take_in_all};
@@ -9,9 +12,6 @@ use std::snapshot::Snapshot;
 use std::sync::Wait;
 use std::thread;
 
-ghost use Rattle.std.specs.Prelude.{◌≡◌, ◌≢◌, ◌+◌, ◌<◌, ◌≤◌, [], ◌∷◌, ◌++◌, length, All, Any, IfOk, IfErr, IsOk};
-ghost use Rattle.turn_table.specs.Lists.{BeginsWith, longer, own, from, last_of};
-
 /// One value that threads take in turn. Each turn sees what all earlier turns left.
 #[derive(Drop)]
 pub struct Turn<T: Story> {
@@ -21,15 +21,18 @@ pub struct Turn<T: Story> {
 }
 
 impl<T: Story> Turn<T> {
-    ghost use Rattle.turn_table.specs.Seats.{seen, numbers, number_of, mine, words, told_by, Keeps, all_numbers, Acted};
+    ghost use Rattle.turn_table.specs.Seats.{seen, numbers, number_of, mine, words, told_by};
+    ghost use Rattle.turn_table.specs.Seats.{Keeps, all_numbers, Acted};
     ghost use Rattle.turn_table.specs.Turns.{opened_with, seats_of, IsSeatOf, IsNoteOf};
 
-    /// Opens a turn over a value with no entries, for so many numbers, and gives the seat that has them all.
+    /// Opens a turn over a value with no entries, for `seats` numbers, and gives the seat that has
+    /// them all. Its one error is want of memory.
     pub fn open(alloc: Global, value: T, seats: u32) -> Result<(Turn<T>, Seat<T>), OpenEnd<T>>
         requires empty { T.entries value ≡ [] }
         requires some { 0 < seats }
         ensures turn { IfOk result (λ r. (opened_with r.0 ≡ value) × (seats_of r.0 ≡ seats)) }
-        ensures seat { IfOk result (λ r. IsSeatOf r.0 r.1 × (numbers r.1 ≡ from 0 seats) × (seen r.1 ≡ [])) }
+        ensures seat { IfOk result (λ r. IsSeatOf r.0 r.1
+            × (numbers r.1 ≡ from 0 seats) × (seen r.1 ≡ [])) }
         ensures err { IfErr result (λ e. e.value ≡ value) }
     {
         let about = Opening {
@@ -47,9 +50,7 @@ impl<T: Story> Turn<T> {
             )),
             Err(refused) => {
                 let Refused { slots } = refused;
-                Err(OpenEnd {
-                    value: only(slots),
-                })
+                Err(OpenEnd { value: only(slots) })
             }
         }
     }
@@ -95,7 +96,8 @@ impl<T: Story> Turn<T> {
         }
     }
 
-    /// Takes in what a note tells: the seat has then seen the longer of the two lists, which begins with both.
+    /// Takes in what a note tells: the seat has then seen the longer of the two lists, which begins
+    /// with both.
     pub fn hear(&self, seat: &mut Seat<T>, note: Note<T>)
         requires seat { IsSeatOf self.now seat.old }
         requires note { IsNoteOf self.now note }
@@ -109,13 +111,14 @@ impl<T: Story> Turn<T> {
         take_in(&self.board.shared, &mut seat.place, note.into_place());
     }
 
-    /// Tries once to take the turn, and does the act in it.
+    /// Tries once to take the turn, and does the act in it. `Busy` comes exactly where its one try
+    /// found another seat's word, and then nothing was done.
     pub fn try_act<A: Act<T>>(&self, seat: &mut Seat<T>, act: &mut A) -> Result<A::Reply, Busy>
         requires { IsSeatOf self.now seat.old }
         ensures seat { IsSeatOf self.now seat.new × (numbers seat.new ≡ numbers seat.old) }
         ensures acted { IfOk result (λ reply.
             Acted A.relation A.adds (T.origin (opened_with self.now))
-                act.old act.new seat.old seat.new reply) }
+            act.old act.new seat.old seat.new reply) }
         ensures free { IfOk result (λ _. words seat.new ≡ words seat.old ++ 0 ∷ []) }
         ensures busy { IfErr result (λ e. words seat.new ≡ words seat.old ++ e.word ∷ []) }
         ensures taken { IfErr result (λ e. (e.word ≢ 0) × (e.word ≢ number_of seat.old + 1)) }
@@ -138,9 +141,8 @@ impl<T: Story> Turn<T> {
     pub fn act<A: Act<T>, R: Wait>(&self, rt: &R, seat: &mut Seat<T>, act: &mut A) -> A::Reply
         requires { IsSeatOf self.now seat.old }
         ensures seat { IsSeatOf self.now seat.new × (numbers seat.new ≡ numbers seat.old) }
-        ensures acted {
-            Acted A.relation A.adds (T.origin (opened_with self.now))
-                act.old act.new seat.old seat.new result }
+        ensures acted { Acted A.relation A.adds (T.origin (opened_with self.now))
+            act.old act.new seat.old seat.new result }
     {
         for _ in rt.forever() {
             match self.try_act(seat, act) {
@@ -151,15 +153,15 @@ impl<T: Story> Turn<T> {
         unreachable!()
     }
 
-    /// Ends the turn, once all its numbers are together again, and gives the value.
+    /// Ends the turn, once all its numbers are together again, and gives the value. Its entries are
+    /// those of these seats, each seat's in its order, and no others.
     pub fn close(self, seats: Vec<Seat<T>>) -> T
         requires seats { All (IsSeatOf self) seats.items }
         requires whole { all_numbers seats.items ≡ seats_of self }
         ensures origin { T.origin result ≡ T.origin (opened_with self) }
         ensures seen { All (λ s. BeginsWith (T.entries result) (seen s)) seats.items }
         ensures own { All (λ s. own T.number (number_of s) (T.entries result) ≡ mine s) seats.items }
-        ensures no_others {
-            All (λ x. Any (λ s. T.number x ≡ number_of s) seats.items) (T.entries result) }
+        ensures no_others { All (λ x. Any (λ s. T.number x ≡ number_of s) seats.items) (T.entries result) }
     {
         let mut seats = seats;
         let mut place = seats.pop().unwrap().into_place();

@@ -1,5 +1,6 @@
 //! The table behind a turn, and the rule that every step keeps.
-//! Word 0 is the length of the list. Word 1 is 0, or one more than the first number of the seat that is in the turn.
+//! Word 0 is the length of the list. Word 1 is 0, or one more than the first number of the seat
+//! that is in the turn.
 //! The one slot has the value.
 use crate::stories::Story;
 use atomic_table::{Seat, Shared, Table, TableRule};

@@ -25,7 +25,7 @@ take_in-requires-clause-table g c =
     let order = i.1.in_order ∙ ap (λ l. l ++ i.0) c.in-Some.ensures.items in
     let at_top = λ (s : Seat g.row.T.Denot g.row.T-Item.Denot g.row.T-Origin.Denot g.T.Story). s.place.table_id ≡ c.args.top.now.table_id in
     let here = all_last at_top c.pop.new.self.items c.in-Some.seat
-        (all_front at_top (c.pop.new.self.items ++ c.in-Some.seat ∷ []) i.0 (subst (All at_top) order c.requires.seats)) in (
+    (all_front at_top (c.pop.new.self.items ++ c.in-Some.seat ∷ []) i.0 (subst (All at_top) order c.requires.seats)) in (
       i.1.same_table ∙ c.requires.table.0,
       ap (λ p. p.table_id) c.into_place.ensures ∙ here,
       c.requires.table.1,

@@ -57,7 +57,7 @@ returns-clause-new g c =
     let seat = c.args.seat in
     let right_is = c.split_seat-last.ensures.4 ∙ ap (λ q. (right q.me.0, [])) c.into_place-place.ensures in
     ap (λ m. own g.T.Story.number (first_of m.0.numbers) m.0.seen) right_is
-        ∙ none_last g.T.Story.number seat.first seat.count seat.place.me.0 seat.away.0 c.requires.two seat.none_else
+    ∙ none_last g.T.Story.number seat.first seat.count seat.place.me.0 seat.away.0 c.requires.two seat.none_else
 
 pub returns-clause-fewer : goal.returns-clause-fewer
 returns-clause-fewer g c =

@@ -31,16 +31,16 @@ returns-clause-acted g c =
     let same = one_hand c.compare_exchange-found.new.seat.me.1 w.0 y w.1 ran.1 in
     let entries = g.T.Story.entries in
     acted g.T.Story g.A.Act.relation g.A.Act.adds (g.T.Story.origin c.args.self.now.board.shared.key.value.value)
-        c.args.act.now c.run_here-reply.new.act c.run_here-reply.result.0 c.run_here-reply.result.1
-        v c.leave.new.place.me.0 seat.first y z
-        (sym (first_is seat.first seat.count v a))
-        c.requires.1
-        (w.2 ∙ ap (λ t. Some (g.T.Story.origin t)) same)
-        (w.4.0, ap entries (sym same) ∙ w.4.1)
-        (w.5 (first_of v.numbers) (has_first seat.first seat.count v a) ∙ ap (λ t. own g.T.Story.number (first_of v.numbers) (entries t)) same)
-        after.2.0
-        after.2.1
-        c.run_here-reply.ensures.told
-        (ap (λ m. m.0.seen) c.leave.ensures.left ∙ ap (λ m. m.0.seen) c.count_entry.ensures.seen ∙ ap (in_hand entries) after.1)
-        (ap (λ m. m.0.numbers) c.leave.ensures.left ∙ ap (λ m. m.0.numbers) c.count_entry.ensures.seen
-            ∙ ap (λ m. m.numbers) c.run_here-reply.ensures.place.2 ∙ ap (λ m. m.numbers) w.3)
+    c.args.act.now c.run_here-reply.new.act c.run_here-reply.result.0 c.run_here-reply.result.1
+    v c.leave.new.place.me.0 seat.first y z
+    (sym (first_is seat.first seat.count v a))
+    c.requires.1
+    (w.2 ∙ ap (λ t. Some (g.T.Story.origin t)) same)
+    (w.4.0, ap entries (sym same) ∙ w.4.1)
+    (w.5 (first_of v.numbers) (has_first seat.first seat.count v a) ∙ ap (λ t. own g.T.Story.number (first_of v.numbers) (entries t)) same)
+    after.2.0
+    after.2.1
+    c.run_here-reply.ensures.told
+    (ap (λ m. m.0.seen) c.leave.ensures.left ∙ ap (λ m. m.0.seen) c.count_entry.ensures.seen ∙ ap (in_hand entries) after.1)
+    (ap (λ m. m.0.numbers) c.leave.ensures.left ∙ ap (λ m. m.0.numbers) c.count_entry.ensures.seen
+    ∙ ap (λ m. m.numbers) c.run_here-reply.ensures.place.2 ∙ ap (λ m. m.numbers) w.3)
