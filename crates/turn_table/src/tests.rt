@@ -231,3 +231,16 @@ fn told<R: Threads + Wait + Sync>(rt: &R, alloc: Global) -> Option<bool>
 fn a_note_goes_to_another_thread(rt: HostRuntime) {
     assert!(rt; told(&rt, rt.alloc()) == Some(true));
 }
+
+#[test]
+fn a_seat_alone_gets_the_turn(rt: HostRuntime) {
+    let row = Row {
+        entries: Vec::new(rt.alloc()),
+    };
+    let Ok((turn, mut seat)) = Turn::open(rt.alloc(), row, 4) else {
+        panic!(rt; "no memory");
+    };
+    assert!(rt; seat.numbers() == 4);
+    assert!(rt; matches!(turn.try_act(&mut seat, &mut Append { value: 1 }), Ok(Ok(0))));
+    assert!(rt; matches!(turn.try_act(&mut seat, &mut Look), Ok(1)));
+}
