@@ -25,8 +25,8 @@ pub trait Story {
 pub trait Act<T: Story> {
     type Reply;
 
-    /// What the act is to do: of the act before and after, the origin, the entries before and after,
-    /// and the reply.
+    /// What the act is to do: of the act before and after, the origin, the entries before and
+    /// after, and the reply.
     ghost relation: { Self → Self → T.Origin → List T.Item → List T.Item → Self.Reply → Type 0 };
 
     /// Whether a reply tells of a new entry.

@@ -160,8 +160,10 @@ impl<T: Story> Turn<T> {
         requires whole { all_numbers seats.items ≡ seats_of self }
         ensures origin { T.origin result ≡ T.origin (opened_with self) }
         ensures seen { All (λ s. BeginsWith (T.entries result) (seen s)) seats.items }
-        ensures own { All (λ s. own T.number (number_of s) (T.entries result) ≡ mine s) seats.items }
-        ensures no_others { All (λ x. Any (λ s. T.number x ≡ number_of s) seats.items) (T.entries result) }
+        ensures own { All (λ s. own T.number (number_of s) (T.entries result) ≡ mine s)
+            seats.items }
+        ensures no_others { All (λ x. Any (λ s. T.number x ≡ number_of s) seats.items)
+            (T.entries result) }
     {
         let mut seats = seats;
         let mut place = seats.pop().unwrap().into_place();
