@@ -1,0 +1,144 @@
+ghost use Rattle.std.specs.Prelude.{◌≡◌, ◌<◌, ℕ, IfOk, OnOk, OnErr, Some};
+ghost use Rattle.std.specs.Result.{result_err};
+ghost use Rattle.dlm_modes.specs.Modes.{weaker};
+ghost use Rattle.dlm_space.specs.Locks.{new_locks, mode_of, all_died, granted, grant_refusal, grant_answer};
+ghost use Rattle.lock_wire.specs.Parts.{tables_of};
+ghost use Rattle.lock_wire.specs.Machine.{with_cell, asking, asking_now, converts, releases, entered, convert_writes, release_writes, caller_of};
+
+use crate::Local;
+use dlm_modes::{Block, Mode};
+use dlm_space::{Converted, Granted, LockError, Space};
+use mdc_types::NodeId;
+use std::alloc::{AllocError, Global};
+use std::marker::Model;
+
+// The tables of sixteen nodes. Of its own resources each keeps the locks as their master.
+#[derive(Drop)]
+pub struct Tables {
+    spaces: Vec<Space>,
+}
+
+impl Model for Tables {
+    ghost use Rattle.std.specs.Prelude.{List, length};
+    ghost use Rattle.dlm_space.specs.Parts.{Part};
+
+    ghost Value = { List (List Part) };
+
+    ghost view = { λ t. t.spaces.items };
+
+    ghost invariant = { λ t. length t.spaces.items ≡ 16 };
+}
+
+fn is_writer(mode: Option<Mode>) -> bool {
+    matches!(mode, Some(Mode::PW | Mode::EX))
+}
+
+impl Tables {
+    // All are empty.
+    pub fn new(alloc: Global) -> Result<Tables, AllocError>
+        ensures { IfOk result (λ t. tables_of t ≡ (λ m. new_locks)) }
+    {
+        let mut spaces = Vec::with_capacity(alloc, 16)?;
+        for _ in 0..16 {
+            spaces.push(Space::new())?;
+        }
+        Ok(Tables { spaces })
+    }
+
+    // The node asks. Where the table refuses it nothing changes.
+    pub fn ask(&mut self, m: NodeId, n: NodeId, res: usize, mode: Mode)
+        requires master { m < 16 }
+        requires node { n < 16 }
+        requires res { res < 21 }
+        ensures { tables_of self.new ≡ with_cell (tables_of self.old) m res (asking (tables_of self.old m res) n mode) }
+    {
+        let _ = self.spaces[m as usize].ask(n, res, mode);
+    }
+
+    fn ask_now(&mut self, m: NodeId, n: NodeId, res: usize, mode: Mode)
+        requires master { m < 16 }
+        requires node { n < 16 }
+        requires res { res < 21 }
+        ensures { tables_of self.new ≡ with_cell (tables_of self.old) m res (asking_now (tables_of self.old m res) n mode) }
+    {
+        let _ = self.spaces[m as usize].ask_now(n, res, mode);
+    }
+
+    // The node converts. It says whether the value was written to the block.
+    pub fn convert(&mut self, m: NodeId, n: NodeId, res: usize, mode: Mode, value: Option<Block>) -> bool
+        requires master { m < 16 }
+        requires node { n < 16 }
+        requires res { res < 21 }
+        ensures writes { result ≡ convert_writes (tables_of self.old m res) n mode value }
+        ensures table { tables_of self.new ≡ with_cell (tables_of self.old) m res (converts (tables_of self.old m res) n mode value) }
+    {
+        let space = &mut self.spaces[m as usize];
+        let from = space.holder(res, n);
+        let answer = space.convert(n, res, mode, value);
+        value.is_some() && matches!(answer, Ok(Converted::Now)) && is_writer(from)
+    }
+
+    // The node releases. It says whether the value was written to the block.
+    pub fn release(&mut self, m: NodeId, n: NodeId, res: usize, value: Option<Block>) -> bool
+        requires master { m < 16 }
+        requires node { n < 16 }
+        requires res { res < 21 }
+        ensures writes { result ≡ release_writes (tables_of self.old m res) n value }
+        ensures table { tables_of self.new ≡ with_cell (tables_of self.old) m res (releases (tables_of self.old m res) n value) }
+    {
+        let space = &mut self.spaces[m as usize];
+        let from = space.holder(res, n);
+        let _ = space.release(n, res, value);
+        value.is_some() && is_writer(from)
+    }
+
+    // Enters what the node reports of its own lock.
+    pub fn enter(&mut self, m: NodeId, n: NodeId, res: usize, state: Local)
+        requires master { m < 16 }
+        requires node { n < 16 }
+        requires res { res < 21 }
+        ensures { tables_of self.new ≡ with_cell (tables_of self.old) m res (entered (tables_of self.old m res) n state) }
+    {
+        match state {
+            Local::Free => {}
+            Local::Asking(to) => self.ask(m, n, res, to),
+            Local::Held(mode) => self.ask_now(m, n, res, mode),
+            Local::Converting(from, to) => {
+                self.ask_now(m, n, res, from);
+                let _ = self.convert(m, n, res, to, None);
+            }
+        }
+    }
+
+    // Serves the head.
+    pub fn grant(&mut self, m: NodeId, res: usize) -> Result<Granted, LockError>
+        requires master { m < 16 }
+        requires res { res < 21 }
+        ensures refused { result_err result ≡ grant_refusal (tables_of self.old m res) }
+        ensures answer { IfOk result (λ g. Some g ≡ grant_answer (tables_of self.old m res)) }
+        ensures ok { OnOk result (tables_of self.new ≡ with_cell (tables_of self.old) m res (granted (tables_of self.old m res))) }
+        ensures err { OnErr result (self.new ≡ self.old) }
+    {
+        self.spaces[m as usize].grant(res)
+    }
+
+    // The node is gone from all tables.
+    pub fn die(&mut self, n: NodeId)
+        requires { n < 16 }
+        ensures { tables_of self.new ≡ (λ m. all_died (tables_of self.old m) n) }
+    {
+        for space in &mut self.spaces {
+            space.die(n);
+        }
+    }
+
+    // The asker at the head whose mode disagrees with what the node holds.
+    pub fn caller(&self, m: NodeId, n: NodeId, res: usize) -> Option<NodeId>
+        requires master { m < 16 }
+        requires node { n < 16 }
+        requires res { res < 21 }
+        ensures { result ≡ caller_of (tables_of self.now m res) n }
+    {
+        self.spaces[m as usize].calls(n, res)
+    }
+}

@@ -1,0 +1,413 @@
+ghost use Rattle.std.specs.Prelude.{◌≡◌, ◌<◌, ◌≤◌, ◌++◌, ◌∷◌, [], IfOk, IfSome, IfErr, OnOk, OnErr, Some};
+ghost use Rattle.std.specs.Option.{option_map};
+ghost use Rattle.std.specs.Result.{result_err};
+ghost use Rattle.lock_wire.specs.Locals as locals;
+ghost use Rattle.lock_wire.specs.Packets.{first, kind_of};
+ghost use Rattle.lock_wire.specs.Machine.{opened, no_node, node_refusal, ask_refusal_at, convert_refusal_at, release_refusal_at, deliver_refusal, serve_refusal, IsAnswered, first_awaited, with_local, asked_of, converted_of, answer_from, released_of, calls_out, then_calls, taken_report, reported_one, reported, received, delivered, serve_answer, served, heir, report_of, without_node, taken_over, died_of, holds_of, written};
+ghost use Rattle.lock_wire.specs.Parts.{wire_of};
+
+use crate::links::Links;
+use crate::tables::Tables;
+use crate::ward::Ward;
+use crate::{Local, Packet, Taken, WireEnd};
+use dlm_modes::{Block, Mode, weaker};
+use dlm_space::{Converted, Granted};
+use mdc_types::{NodeId, Refusal};
+use std::alloc::{AllocError, Global};
+use std::array;
+use std::marker::Model;
+
+/// A lock space spread over up to sixteen nodes: their local states, the links between them, and the
+/// tables of the masters. A call that fails changes nothing.
+///
+/// Every number of a node may be given: `Refusal::NoNode` names one that isn't below the number of
+/// nodes, and `Refusal::Fenced` a dead one, before all else. Resources are below 21. All memory that a
+/// call needs is taken before it does anything.
+#[derive(Drop)]
+pub struct Wire {
+    nodes: u8,
+    live: [bool; 16],
+    locals: [[Local; 21]; 16],
+    links: Links,
+    tables: Tables,
+    wards: [Ward; 21],
+}
+
+impl Model for Wire {
+    ghost use Rattle.lock_wire.specs.Parts.{Parts, IsInRange};
+
+    ghost Value = { Parts };
+
+    ghost view = { λ w. record { nodes = w.nodes; live = w.live; locals = w.locals; links = w.links; tables = w.tables; wards = w.wards } };
+
+    ghost invariant = { λ w. IsInRange w.nodes w.wards };
+}
+
+impl Wire {
+    /// So many nodes, 1 to 16, all live, with nothing asked or held. The master of a resource is its
+    /// number modulo that of the nodes.
+    pub fn open(alloc: Global, nodes: u8) -> Result<Wire, AllocError>
+        requires least { 1 ≤ nodes }
+        requires most { nodes ≤ 16 }
+        ensures { IfOk result (λ w. wire_of w ≡ opened nodes) }
+    {
+        Ok(Wire {
+            nodes,
+            live: array::from_fn(|n| n < nodes as usize),
+            locals: [[Local::Free; 21]; 16],
+            links: Links::new(alloc),
+            tables: Tables::new(alloc)?,
+            wards: array::from_fn(|r| Ward {
+                master: (r % nodes as usize) as NodeId,
+                awaited: [false; 16],
+                stale: false,
+                called: [None; 16],
+            }),
+        })
+    }
+
+    fn known(&self, n: NodeId) -> Result<(), WireEnd>
+        ensures refused { result_err result ≡ node_refusal (wire_of self.now) n }
+        ensures range { IfOk result (λ u. n < 16) }
+    {
+        if n >= self.nodes {
+            return Err(WireEnd::Refused(Refusal::NoNode(n)));
+        }
+        if !self.live[n as usize] {
+            return Err(WireEnd::Refused(Refusal::Fenced(n)));
+        }
+        Ok(())
+    }
+
+    // Room for so many more packets.
+    fn room(&mut self, count: usize) -> Result<(), WireEnd>
+        ensures end { IfErr result (λ e. e ≡ Memory) }
+        ensures same { wire_of self.new ≡ wire_of self.old }
+        ensures room { OnOk result (count ≤ self.new.links.room) }
+        ensures err { OnErr result (wire_of self.new ≡ wire_of self.old) }
+    {
+        match self.links.reserve(count) {
+            Ok(()) => Ok(()),
+            Err(_) => Err(WireEnd::Memory),
+        }
+    }
+
+    /// The node asks for the mode, by an Ask to the master. `NotFree` where its local state isn't free.
+    pub fn ask(&mut self, n: NodeId, res: usize, mode: Mode) -> Result<(), WireEnd>
+        requires { res < 21 }
+        ensures refused { IsAnswered (ask_refusal_at (wire_of self.old) n res) result }
+        ensures ok { OnOk result (wire_of self.new ≡ asked_of (wire_of self.old) n res mode) }
+        ensures err { OnErr result (wire_of self.new ≡ wire_of self.old) }
+    {
+        self.known(n)?;
+        self.locals[n as usize][res].may_ask()?;
+        self.room(1)?;
+        self.locals[n as usize][res] = Local::Asking(mode);
+        let master = self.wards[res].master;
+        self.links.send(n, master, Packet::Ask(res, mode));
+        Ok(())
+    }
+
+    /// The node converts what it holds to the mode, by a Convert with the value to the master. A weaker
+    /// mode, or the same, is held at once. `NotHeld` where it holds nothing, `AlreadyAsked` where a
+    /// conversion of it waits.
+    pub fn convert(
+        &mut self,
+        n: NodeId,
+        res: usize,
+        mode: Mode,
+        value: Option<Block>,
+    ) -> Result<Converted, WireEnd>
+        requires { res < 21 }
+        ensures refused { IsAnswered (convert_refusal_at (wire_of self.old) n res) result }
+        ensures answer { IfOk result (λ c. Some c ≡ answer_from ((wire_of self.old).local n res) mode) }
+        ensures ok { OnOk result (wire_of self.new ≡ converted_of (wire_of self.old) n res mode value) }
+        ensures err { OnErr result (wire_of self.new ≡ wire_of self.old) }
+    {
+        self.known(n)?;
+        let from = self.locals[n as usize][res].may_convert()?;
+        self.room(1)?;
+        self.locals[n as usize][res] = Local::converting(from, mode);
+        let master = self.wards[res].master;
+        self.links.send(n, master, Packet::Convert(res, mode, value));
+        Ok(converting_answer(from, mode))
+    }
+
+    /// The node lets go of what it holds, by a Release with the value to the master. `NotHeld` where it
+    /// holds and asks nothing, `Refusal::Waiting` where it asks or converts.
+    pub fn release(
+        &mut self,
+        n: NodeId,
+        res: usize,
+        value: Option<Block>,
+    ) -> Result<(), WireEnd>
+        requires { res < 21 }
+        ensures refused { IsAnswered (release_refusal_at (wire_of self.old) n res) result }
+        ensures ok { OnOk result (wire_of self.new ≡ released_of (wire_of self.old) n res value) }
+        ensures err { OnErr result (wire_of self.new ≡ wire_of self.old) }
+    {
+        self.known(n)?;
+        self.locals[n as usize][res].may_release()?;
+        self.room(1)?;
+        self.locals[n as usize][res] = Local::Free;
+        let master = self.wards[res].master;
+        self.links.send(n, master, Packet::Release(res, value));
+        Ok(())
+    }
+
+    // The least live node whose report on the resource isn't taken.
+    fn first_awaited(&self, res: usize) -> Option<NodeId>
+        requires { res < 21 }
+        ensures { result ≡ first_awaited (wire_of self.now) res }
+    {
+        for n in 0..16 {
+            if self.live[n as usize] && self.wards[res].awaited[n as usize] {
+                return Some(n);
+            }
+        }
+        None
+    }
+
+    // The master names the asker at the head to the node, where that disagrees with it and it wasn't
+    // the one named last.
+    fn call_one(&mut self, m: NodeId, res: usize, n: NodeId) {
+        let Some(asker) = self.tables.caller(m, n, res) else {
+            return;
+        };
+        let last = self.wards[res].called[n as usize];
+        self.wards[res].called[n as usize] = Some(asker);
+        if last != Some(asker) {
+            self.links.send(m, n, Packet::Called(res, asker));
+        }
+    }
+
+    // The master names the asker at the head to each holder that disagrees with it.
+    fn call_out(&mut self, m: NodeId, res: usize) {
+        for n in 0..16 {
+            self.call_one(m, res, n);
+        }
+    }
+
+    // The same, unless a report on the resource is awaited.
+    fn call_unless(&mut self, m: NodeId, res: usize) {
+        if self.first_awaited(res).is_none() {
+            self.call_out(m, res);
+        }
+    }
+
+    // The master enters what the node reports of its lock on one resource.
+    fn take_state(&mut self, m: NodeId, n: NodeId, res: usize, state: Option<Local>) {
+        let Some(state) = state else {
+            return;
+        };
+        self.tables.enter(m, n, res, state);
+        self.wards[res].awaited[n as usize] = false;
+        self.call_unless(m, res);
+    }
+
+    fn take_report(&mut self, m: NodeId, n: NodeId, states: &[Option<Local>; 21]) {
+        for (res, state) in states.iter().enumerate() {
+            self.take_state(m, n, res, *state);
+        }
+    }
+
+    // A value was written to the block.
+    fn freshen(&mut self, res: usize, written: bool) {
+        if written {
+            self.wards[res].stale = false;
+        }
+    }
+
+    fn take_packet(&mut self, from: NodeId, to: NodeId, packet: Packet) {
+        match packet {
+            Packet::Ask(res, mode) => {
+                self.tables.ask(to, from, res, mode);
+                self.call_unless(to, res);
+            }
+            Packet::Convert(res, mode, value) => {
+                let written = self.tables.convert(to, from, res, mode, value);
+                self.freshen(res, written);
+                self.call_unless(to, res);
+            }
+            Packet::Release(res, value) => {
+                let written = self.tables.release(to, from, res, value);
+                self.freshen(res, written);
+                self.call_unless(to, res);
+            }
+            Packet::Granted(res, granted) => {
+                self.locals[to as usize][res] = Local::Held(granted.mode);
+            }
+            Packet::Called(_, _) => {}
+            Packet::Report(states) => self.take_report(to, from, &states),
+        }
+    }
+
+    /// The second node takes the first packet on the link from the first node, and says its kind. A
+    /// master makes the call of an Ask, a Convert or a Release on its table, enters what a Report says,
+    /// and names a new asker to the holders in its way; a node holds what a Granted gives it. After
+    /// NoNode and Fenced of the first node and then of the second, `Refusal::LinkEmpty` where the link
+    /// has no packet.
+    pub fn deliver(&mut self, from: NodeId, to: NodeId) -> Result<Taken, WireEnd>
+        ensures refused { IsAnswered (deliver_refusal (wire_of self.old) from to) result }
+        ensures kind { IfOk result (λ k. Some k ≡ option_map kind_of (first ((wire_of self.old).link from to))) }
+        ensures ok { OnOk result (wire_of self.new ≡ delivered (wire_of self.old) from to) }
+        ensures err { OnErr result (wire_of self.new ≡ wire_of self.old) }
+    {
+        self.known(from)?;
+        self.known(to)?;
+        let Some(packet) = self.links.first(from, to) else {
+            return Err(WireEnd::Refused(Refusal::LinkEmpty { from, to }));
+        };
+        self.room(most_calls(&packet))?;
+        self.links.take(from, to);
+        self.take_packet(from, to, packet);
+        Ok(packet.kind())
+    }
+
+    /// The master of the resource serves the head of its queues, sends a Granted to it, and names the
+    /// next asker to the holders in its way. `Refusal::NotUp` where the master is dead, as all nodes
+    /// then are; `Refusal::Rebuilding` with the least live node whose report it hasn't taken; then
+    /// `NothingAsked` and `NotGrantable` as `Space::grant`. The block is told as valid only where the
+    /// table has it so and, after a change of masters, a holder of PW or EX wrote it since.
+    pub fn serve(&mut self, res: usize) -> Result<Granted, WireEnd>
+        requires { res < 21 }
+        ensures refused { IsAnswered (serve_refusal (wire_of self.old) res) result }
+        ensures answer { IfOk result (λ g. Some g ≡ serve_answer (wire_of self.old) res) }
+        ensures ok { OnOk result (wire_of self.new ≡ served (wire_of self.old) res) }
+        ensures err { OnErr result (wire_of self.new ≡ wire_of self.old) }
+    {
+        let m = self.wards[res].master;
+        if !self.live[m as usize] {
+            return Err(WireEnd::Refused(Refusal::NotUp(m)));
+        }
+        if let Some(n) = self.first_awaited(res) {
+            return Err(WireEnd::Refused(Refusal::Rebuilding(n)));
+        }
+        self.room(17)?;
+        let granted = match self.tables.grant(m, res) {
+            Ok(granted) => granted,
+            Err(e) => return Err(WireEnd::Lock(e)),
+        };
+        let told = Granted {
+            valid: granted.valid && !self.wards[res].stale,
+            ..granted
+        };
+        self.wards[res].called = [None; 16];
+        self.links.send(m, told.node, Packet::Granted(res, told));
+        self.call_out(m, res);
+        Ok(told)
+    }
+
+    // The least live node.
+    fn first_live(&self) -> Option<NodeId>
+        ensures least { result ≡ heir (wire_of self.now) }
+        ensures range { IfSome result (λ n. n < 16) }
+    {
+        for n in 0..16 {
+            if self.live[n as usize] {
+                return Some(n);
+            }
+        }
+        None
+    }
+
+    // The node is gone, with its packets, its local states, and its entries in all tables.
+    fn remove(&mut self, n: NodeId)
+        requires { n < 16 }
+        ensures wire { wire_of self.new ≡ without_node (wire_of self.old) n }
+        ensures room { self.old.links.room ≤ self.new.links.room }
+    {
+        self.live[n as usize] = false;
+        self.locals[n as usize] = [Local::Free; 21];
+        self.links.drop_node(n);
+        self.tables.die(n);
+    }
+
+    // What the node reports of the resources of the dead master.
+    fn states(&self, dead: NodeId, n: NodeId) -> [Option<Local>; 21]
+        requires { n < 16 }
+        ensures { result ≡ states_below (wire_of self.now) dead n 21 }
+    {
+        array::from_fn(|r| {
+            if self.wards[r].master == dead {
+                Some(self.locals[n as usize][r])
+            } else {
+                None
+            }
+        })
+    }
+
+    // Each live node reports to the new master.
+    fn report_all(&mut self, dead: NodeId, m: NodeId) {
+        for n in 0..16 {
+            if self.live[n as usize] {
+                let states = self.states(dead, n);
+                self.links.send(n, m, Packet::Report(states));
+            }
+        }
+    }
+
+    // The new master takes over.
+    fn take_over(&mut self, dead: NodeId, m: NodeId) {
+        self.report_all(dead, m);
+        for ward in &mut self.wards {
+            if ward.master == dead {
+                *ward = Ward {
+                    master: m,
+                    awaited: self.live,
+                    stale: true,
+                    called: [None; 16],
+                };
+            }
+        }
+    }
+
+    /// The node dies. The packets on its links go, and each master drops what it held and asked. The
+    /// least live node becomes the master of its resources, with empty tables and blocks that aren't
+    /// valid, and each live node, that one too, reports its local states of these to it.
+    pub fn die(&mut self, n: NodeId) -> Result<(), WireEnd>
+        ensures refused { IsAnswered (node_refusal (wire_of self.old) n) result }
+        ensures ok { OnOk result (wire_of self.new ≡ died_of (wire_of self.old) n) }
+        ensures err { OnErr result (wire_of self.new ≡ wire_of self.old) }
+    {
+        self.known(n)?;
+        self.room(16)?;
+        self.remove(n);
+        if let Some(m) = self.first_live() {
+            self.take_over(n, m);
+        }
+        Ok(())
+    }
+
+    /// What the node holds: the local mode, of a conversion that waits the one from which it goes. None
+    /// where it is dead or there is no such node.
+    pub fn holds(&self, n: NodeId, res: usize) -> Option<Mode>
+        requires { res < 21 }
+        ensures { result ≡ holds_of (wire_of self.now) n res }
+    {
+        if n < self.nodes && self.live[n as usize] {
+            self.locals[n as usize][res].held()
+        } else {
+            None
+        }
+    }
+}
+
+// How many Calleds may follow a packet: one to each node, for each resource of which it speaks.
+fn most_calls(packet: &Packet) -> usize {
+    match packet {
+        Packet::Report(_) => 336,
+        _ => 16,
+    }
+}
+
+// Whether the conversion is taken at once.
+fn converting_answer(from: Mode, to: Mode) -> Converted
+    ensures { result ≡ locals.converting_answer from to }
+{
+    if weaker(from, to) {
+        Converted::Now
+    } else {
+        Converted::Queued
+    }
+}
