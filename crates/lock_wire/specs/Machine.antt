@@ -291,14 +291,14 @@ without_node w d = record w {
 }
 
 -- the new master's ward: each live node's report is awaited
-abbrev pub heirs_ward : Wire → ℕ → Ward
-heirs_ward w m = record { master = m; awaited = w.live; stale = true; called = λ n. None }
+abbrev pub heirs_ward : (ℕ → Bool) → ℕ → Ward
+heirs_ward live m = record { master = m; awaited = live; stale = true; called = λ n. None }
 
 -- node m takes over from d
 abbrev pub taken_over : Wire → ℕ → Option ℕ → Wire
 taken_over w d None = w
 taken_over w d (Some m) = record w {
-  ward = λ r. if master_of w r == d then heirs_ward w m else w.ward r;
+  ward = λ r. if master_of w r == d then heirs_ward w.live m else w.ward r;
   link = λ a b. if (b == m) && w.live a then w.link a b ++ report_of w d a ∷ [] else w.link a b;
 }
 

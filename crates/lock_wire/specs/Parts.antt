@@ -1,9 +1,9 @@
 -- What a spread lock space keeps, as plain data, and the machine's state for which it stands.
-use Rattle.std.specs.Prelude.{ℕ, ◌<◌, ◌≤◌, length, slice_index_or, Bool, true, false, List, [], Option, None}
+use Rattle.std.specs.Prelude.{◌≡◌, ℕ, ◌<◌, ◌≤◌, length, take, slice_index_or, Bool, true, false, List, [], Option, None}
 use Rattle.dlm_space.specs.Locks.{Lock}
 use Rattle.dlm_space.specs.Parts.{Part, locks_of}
 use Rattle.lock_wire.specs.Machine.{Ward, Wire, no_ward}
-use Rattle.lock_wire.specs.Packets.{link_of}
+use Rattle.lock_wire.specs.Packets.{is_on, link_of}
 use Rattle.lock_wire.specs.declared.links.Post.{Post}
 use Rattle.lock_wire.specs.declared.local.Local.{Local}
 use Rattle.lock_wire.specs.declared.local.Local.TheVariants.{Free}
@@ -60,7 +60,12 @@ wire_of p = record {
   ward = wards_of p.wards;
 }
 
--- at most sixteen nodes, and each master is one of sixteen
-pub record IsInRange (nodes : ℕ) (wards : List WardPart) : Type 0 where
-  pub nodes : nodes ≤ 16
-  pub masters : (r : ℕ) → r < length wards → (slice_index_or wards r no_ward_part).master < 16
+-- each master is one of sixteen
+abbrev pub AreInRange : List WardPart → Type 0
+AreInRange wards = (r : ℕ) → r < length wards → (slice_index_or wards r no_ward_part).master < 16
+
+-- the post at i is the first one on the link
+pub record IsFirstOn (posts : List Post) (a b i : ℕ) : Type 0 where
+  pub below : i < length posts
+  pub none_before : link_of (take i posts) a b ≡ []
+  pub on : (d : Post) → is_on a b (slice_index_or posts i d) ≡ true

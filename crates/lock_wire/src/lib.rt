@@ -8,6 +8,7 @@
 mod ends;
 mod links;
 mod local;
+mod locals;
 mod packet;
 mod tables;
 #[cfg(test)]

@@ -1,4 +1,5 @@
-ghost use Rattle.std.specs.Prelude.{◌≡◌, ◌<◌, ◌≤◌, ◌+◌, ◌++◌, ◌∷◌, [], if◌then◌else◌, ◌==◌, ◌||◌, IfSome, OnOk, OnErr};
+ghost use Rattle.std.specs.Prelude.{◌≡◌, ◌<◌, ◌≤◌, ◌+◌, ◌++◌, ◌∷◌, [], if◌then◌else◌, ◌==◌, ◌||◌, IfNone, IfSome, OnOk, OnErr};
+ghost use Rattle.lock_wire.specs.Parts.{IsFirstOn};
 ghost use Rattle.lock_wire.specs.Packets.{IsOfResource, first, rest, link_of};
 ghost use Rattle.lock_wire.specs.Parts.{links_of};
 ghost use Rattle.lock_wire.specs.Machine.{with_cell};
@@ -35,6 +36,19 @@ impl Model for Links {
     ghost invariant = { λ l. AreOfResources l.posts.items };
 }
 
+// Where the first packet on the link lies.
+fn first_at(posts: &[Post], from: NodeId, to: NodeId) -> Option<usize>
+    ensures found { IfSome result (λ i. IsFirstOn posts.now from to i) }
+    ensures none { IfNone result (link_of posts.now from to ≡ []) }
+{
+    for (i, p) in posts.iter().enumerate() {
+        if p.from == from && p.to == to {
+            return Some(i);
+        }
+    }
+    None
+}
+
 impl Links {
     // Empty links.
     pub fn new(alloc: Global) -> Links
@@ -59,22 +73,15 @@ impl Links {
         ensures first { result ≡ first (links_of self.now from to) }
         ensures range { IfSome result (λ p. IsOfResource p) }
     {
-        let at = self.first_at(from, to)?;
+        let at = first_at(&self.posts, from, to)?;
         Some(self.posts[at].packet)
-    }
-
-    // Where the first packet on the link lies.
-    fn first_at(&self, from: NodeId, to: NodeId) -> Option<usize> {
-        self.posts
-            .iter()
-            .position(|p| p.from == from && p.to == to)
     }
 
     // Takes the first packet off the link, if there is one.
     pub fn take(&mut self, from: NodeId, to: NodeId)
         ensures { links_of self.new ≡ with_cell (links_of self.old) from to (rest (links_of self.old from to)) }
     {
-        if let Some(at) = self.first_at(from, to) {
+        if let Some(at) = first_at(&self.posts, from, to) {
             let _ = self.posts.remove(at);
         }
     }

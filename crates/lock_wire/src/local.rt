@@ -56,7 +56,7 @@ impl Local {
     /// where a conversion waits.
     pub fn may_convert(&self) -> Result<Mode, WireEnd>
         ensures refused { result_err result ≡ not_convertible self.now }
-        ensures held { IfOk result (λ mode. self.now ≡ Held mode) }
+        ensures held { IfOk result (λ mode. self.now ≡ Local.Held mode) }
     {
         match self {
             Local::Free | Local::Asking(_) => Err(WireEnd::Lock(LockError::NotHeld)),

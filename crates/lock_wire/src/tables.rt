@@ -19,7 +19,7 @@ pub struct Tables {
 }
 
 impl Model for Tables {
-    ghost use Rattle.std.specs.Prelude.{List, length};
+    ghost use Rattle.std.specs.Prelude.{◌≡◌, List, length};
     ghost use Rattle.dlm_space.specs.Parts.{Part};
 
     ghost Value = { List (List Part) };

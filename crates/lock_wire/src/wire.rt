@@ -3,12 +3,13 @@ ghost use Rattle.std.specs.Option.{option_map};
 ghost use Rattle.std.specs.Result.{result_err};
 ghost use Rattle.lock_wire.specs.Locals as locals;
 ghost use Rattle.lock_wire.specs.Packets.{first, kind_of};
-ghost use Rattle.lock_wire.specs.Machine.{opened, no_node, node_refusal, ask_refusal_at, convert_refusal_at, release_refusal_at, deliver_refusal, serve_refusal, IsAnswered, first_awaited, with_local, asked_of, converted_of, answer_from, released_of, calls_out, then_calls, taken_report, reported_one, reported, received, delivered, serve_answer, served, heir, report_of, without_node, taken_over, died_of, holds_of, written};
+ghost use Rattle.lock_wire.specs.Machine.{opened, no_node, node_refusal, ask_refusal_at, convert_refusal_at, release_refusal_at, deliver_refusal, serve_refusal, IsAnswered, first_awaited, with_local, asked_of, converted_of, answer_from, released_of, calls_out, then_calls, taken_report, reported_one, reported, received, delivered, serve_answer, served, heir, report_of, without_node, states_below, taken_over, died_of, holds_of, written};
 ghost use Rattle.lock_wire.specs.Parts.{wire_of};
 
 use crate::links::Links;
+use crate::locals::Locals;
 use crate::tables::Tables;
-use crate::ward::Ward;
+use crate::ward::Wards;
 use crate::{Local, Packet, Taken, WireEnd};
 use dlm_modes::{Block, Mode, weaker};
 use dlm_space::{Converted, Granted};
@@ -27,20 +28,21 @@ use std::marker::Model;
 pub struct Wire {
     nodes: u8,
     live: [bool; 16],
-    locals: [[Local; 21]; 16],
+    locals: Locals,
     links: Links,
     tables: Tables,
-    wards: [Ward; 21],
+    wards: Wards,
 }
 
 impl Model for Wire {
-    ghost use Rattle.lock_wire.specs.Parts.{Parts, IsInRange};
+    ghost use Rattle.std.specs.Prelude.{◌≤◌};
+    ghost use Rattle.lock_wire.specs.Parts.{Parts};
 
     ghost Value = { Parts };
 
     ghost view = { λ w. record { nodes = w.nodes; live = w.live; locals = w.locals; links = w.links; tables = w.tables; wards = w.wards } };
 
-    ghost invariant = { λ w. IsInRange w.nodes w.wards };
+    ghost invariant = { λ w. w.nodes ≤ 16 };
 }
 
 impl Wire {
@@ -54,15 +56,10 @@ impl Wire {
         Ok(Wire {
             nodes,
             live: array::from_fn(|n| n < nodes as usize),
-            locals: [[Local::Free; 21]; 16],
+            locals: Locals::new(),
             links: Links::new(alloc),
             tables: Tables::new(alloc)?,
-            wards: array::from_fn(|r| Ward {
-                master: (r % nodes as usize) as NodeId,
-                awaited: [false; 16],
-                stale: false,
-                called: [None; 16],
-            }),
+            wards: Wards::new(nodes),
         })
     }
 
@@ -81,7 +78,7 @@ impl Wire {
 
     // Room for so many more packets.
     fn room(&mut self, count: usize) -> Result<(), WireEnd>
-        ensures end { IfErr result (λ e. e ≡ Memory) }
+        ensures end { IfErr result (λ e. e ≡ WireEnd.Memory) }
         ensures same { wire_of self.new ≡ wire_of self.old }
         ensures room { OnOk result (count ≤ self.new.links.room) }
         ensures err { OnErr result (wire_of self.new ≡ wire_of self.old) }
@@ -100,10 +97,10 @@ impl Wire {
         ensures err { OnErr result (wire_of self.new ≡ wire_of self.old) }
     {
         self.known(n)?;
-        self.locals[n as usize][res].may_ask()?;
+        self.locals.get(n, res).may_ask()?;
         self.room(1)?;
-        self.locals[n as usize][res] = Local::Asking(mode);
-        let master = self.wards[res].master;
+        self.locals.set(n, res, Local::Asking(mode));
+        let master = self.wards.master(res);
         self.links.send(n, master, Packet::Ask(res, mode));
         Ok(())
     }
@@ -125,10 +122,10 @@ impl Wire {
         ensures err { OnErr result (wire_of self.new ≡ wire_of self.old) }
     {
         self.known(n)?;
-        let from = self.locals[n as usize][res].may_convert()?;
+        let from = self.locals.get(n, res).may_convert()?;
         self.room(1)?;
-        self.locals[n as usize][res] = Local::converting(from, mode);
-        let master = self.wards[res].master;
+        self.locals.set(n, res, Local::converting(from, mode));
+        let master = self.wards.master(res);
         self.links.send(n, master, Packet::Convert(res, mode, value));
         Ok(converting_answer(from, mode))
     }
@@ -147,10 +144,10 @@ impl Wire {
         ensures err { OnErr result (wire_of self.new ≡ wire_of self.old) }
     {
         self.known(n)?;
-        self.locals[n as usize][res].may_release()?;
+        self.locals.get(n, res).may_release()?;
         self.room(1)?;
-        self.locals[n as usize][res] = Local::Free;
-        let master = self.wards[res].master;
+        self.locals.set(n, res, Local::Free);
+        let master = self.wards.master(res);
         self.links.send(n, master, Packet::Release(res, value));
         Ok(())
     }
@@ -161,7 +158,7 @@ impl Wire {
         ensures { result ≡ first_awaited (wire_of self.now) res }
     {
         for n in 0..16 {
-            if self.live[n as usize] && self.wards[res].awaited[n as usize] {
+            if self.live[n as usize] && self.wards.awaits(res, n) {
                 return Some(n);
             }
         }
@@ -174,8 +171,8 @@ impl Wire {
         let Some(asker) = self.tables.caller(m, n, res) else {
             return;
         };
-        let last = self.wards[res].called[n as usize];
-        self.wards[res].called[n as usize] = Some(asker);
+        let last = self.wards.called(res, n);
+        self.wards.call(res, n, asker);
         if last != Some(asker) {
             self.links.send(m, n, Packet::Called(res, asker));
         }
@@ -201,20 +198,13 @@ impl Wire {
             return;
         };
         self.tables.enter(m, n, res, state);
-        self.wards[res].awaited[n as usize] = false;
+        self.wards.take_report(res, n);
         self.call_unless(m, res);
     }
 
     fn take_report(&mut self, m: NodeId, n: NodeId, states: &[Option<Local>; 21]) {
         for (res, state) in states.iter().enumerate() {
             self.take_state(m, n, res, *state);
-        }
-    }
-
-    // A value was written to the block.
-    fn freshen(&mut self, res: usize, written: bool) {
-        if written {
-            self.wards[res].stale = false;
         }
     }
 
@@ -226,16 +216,16 @@ impl Wire {
             }
             Packet::Convert(res, mode, value) => {
                 let written = self.tables.convert(to, from, res, mode, value);
-                self.freshen(res, written);
+                self.wards.freshen(res, written);
                 self.call_unless(to, res);
             }
             Packet::Release(res, value) => {
                 let written = self.tables.release(to, from, res, value);
-                self.freshen(res, written);
+                self.wards.freshen(res, written);
                 self.call_unless(to, res);
             }
             Packet::Granted(res, granted) => {
-                self.locals[to as usize][res] = Local::Held(granted.mode);
+                self.locals.set(to, res, Local::Held(granted.mode));
             }
             Packet::Called(_, _) => {}
             Packet::Report(states) => self.take_report(to, from, &states),
@@ -276,7 +266,7 @@ impl Wire {
         ensures ok { OnOk result (wire_of self.new ≡ served (wire_of self.old) res) }
         ensures err { OnErr result (wire_of self.new ≡ wire_of self.old) }
     {
-        let m = self.wards[res].master;
+        let m = self.wards.master(res);
         if !self.live[m as usize] {
             return Err(WireEnd::Refused(Refusal::NotUp(m)));
         }
@@ -289,10 +279,10 @@ impl Wire {
             Err(e) => return Err(WireEnd::Lock(e)),
         };
         let told = Granted {
-            valid: granted.valid && !self.wards[res].stale,
+            valid: granted.valid && !self.wards.is_stale(res),
             ..granted
         };
-        self.wards[res].called = [None; 16];
+        self.wards.forget(res);
         self.links.send(m, told.node, Packet::Granted(res, told));
         self.call_out(m, res);
         Ok(told)
@@ -318,7 +308,7 @@ impl Wire {
         ensures room { self.old.links.room ≤ self.new.links.room }
     {
         self.live[n as usize] = false;
-        self.locals[n as usize] = [Local::Free; 21];
+        self.locals.clear(n);
         self.links.drop_node(n);
         self.tables.die(n);
     }
@@ -329,8 +319,8 @@ impl Wire {
         ensures { result ≡ states_below (wire_of self.now) dead n 21 }
     {
         array::from_fn(|r| {
-            if self.wards[r].master == dead {
-                Some(self.locals[n as usize][r])
+            if self.wards.master(r) == dead {
+                Some(self.locals.get(n, r))
             } else {
                 None
             }
@@ -350,16 +340,7 @@ impl Wire {
     // The new master takes over.
     fn take_over(&mut self, dead: NodeId, m: NodeId) {
         self.report_all(dead, m);
-        for ward in &mut self.wards {
-            if ward.master == dead {
-                *ward = Ward {
-                    master: m,
-                    awaited: self.live,
-                    stale: true,
-                    called: [None; 16],
-                };
-            }
-        }
+        self.wards.take_over(dead, m, &self.live);
     }
 
     /// The node dies. The packets on its links go, and each master drops what it held and asked. The
@@ -386,7 +367,7 @@ impl Wire {
         ensures { result ≡ holds_of (wire_of self.now) n res }
     {
         if n < self.nodes && self.live[n as usize] {
-            self.locals[n as usize][res].held()
+            self.locals.get(n, res).held()
         } else {
             None
         }

@@ -1,0 +1,46 @@
+-- Lists as functions of their index, where one element is replaced.
+use Rattle.std.proofs.Common.{◌≡◌, ◌<◌, ◌≤◌, ◌+◌, nat_lt, ℕ, zero, suc, length, get_or, set, replicate, List, [], ◌∷◌, Bool, true, false, ◌==◌, ◌&&◌, refl, sym, ap, ◌∙◌, arith, if◌then◌else◌}
+use Rattle.std.proofs.lemmas.List.{get_or_default, get_or_past}
+use Rattle.std.proofs.lemmas.Bool.Decides.{nat_tests}
+use Rattle.std.proofs.Math.Path.{fun_ext}
+use Rattle.dlm_modes.specs.Points.{with_at}
+use Rattle.lock_wire.specs.Machine.{with_cell}
+
+pub get_or-replicate : {A : Type 0} (k n : ℕ) (d : A) → get_or (replicate k d) n d ≡ d
+get_or-replicate zero n d = refl
+get_or-replicate (suc k) zero d = refl
+get_or-replicate (suc k) (suc n) d = get_or-replicate k n d
+
+pub get-set : {A : Type 0} (xs : List A) (n m : ℕ) (v d : A) → n < length xs → get_or (set xs n v) m d ≡ (if m == n then v else get_or xs m d)
+get-set [] n m v d lt = absurd (omega (arith, lt))
+get-set (x ∷ xs) zero zero v d lt = refl
+get-set (x ∷ xs) zero (suc m) v d lt = grind arith
+get-set (x ∷ xs) (suc n) zero v d lt = grind arith
+get-set (x ∷ xs) (suc n) (suc m) v d lt = grind (arith, get-set xs n m v d (omega (arith, lt)))
+
+if_ap : {A B : Type 0} (f : A → B) (b : Bool) (x y : A) → f (if b then x else y) ≡ (if b then f x else f y)
+if_ap f true x y = refl
+if_ap f false x y = refl
+
+-- one element
+pub at-set : {A B : Type 0} (f : A → B) (xs : List A) (i : ℕ) (v d : A) → i < length xs → (λ r. f (get_or (set xs i v) r d)) ≡ with_at (λ r. f (get_or xs r d)) i (f v)
+at-set f xs i v d lt = fun_ext (λ r. ap f (get-set xs i r v d lt) ∙ if_ap f (r == i) v (get_or xs r d))
+
+in_row : {B : Type 0} (b : Bool) (c : Bool) (v x y z : B) → x ≡ (if c then v else y) → (b ≡ true → z ≡ y) → (if b then x else z) ≡ (if b && c then v else z)
+in_row true c v x y z e same = e ∙ ap (λ q. if c then v else q) (sym (same refl))
+in_row false c v x y z e same = refl
+
+same_at : {A : Type 0} (n i : ℕ) (f : ℕ → A) → (n == i) ≡ true → f n ≡ f i
+same_at n i f e = let same : n ≡ i = grind (arith, nat_tests) in ap f same
+
+-- one element of one row
+pub row-set : {A B : Type 0} (f : A → ℕ → B) (rows : List A) (i : ℕ) (row d : A) (j : ℕ) (v : B) → i < length rows → f row ≡ with_at (f (get_or rows i d)) j v → (λ n. f (get_or (set rows i row) n d)) ≡ with_cell (λ n. f (get_or rows n d)) i j v
+row-set f rows i row d j v lt e =
+    fun_ext (λ n. fun_ext (λ s.
+        ap (λ q. f q s) (get-set rows i n row d lt)
+        ∙ if_ap (λ q. f q s) (n == i) row (get_or rows n d)
+        ∙ in_row (n == i) (s == j) v (f row s) (f (get_or rows i d) s) (f (get_or rows n d) s) (ap (λ g. g s) e) (λ t. same_at n i (λ k. f (get_or rows k d) s) t)))
+
+-- one row
+pub rows-set : {A B : Type 0} (f : A → ℕ → B) (rows : List A) (i : ℕ) (row d : A) → i < length rows → (λ n. f (get_or (set rows i row) n d)) ≡ (λ n. if n == i then f row else f (get_or rows n d))
+rows-set f rows i row d lt = fun_ext (λ n. ap f (get-set rows i n row d lt) ∙ if_ap f (n == i) row (get_or rows n d))
