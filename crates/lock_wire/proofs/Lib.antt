@@ -1,2 +1,4 @@
 pub mod Lists
 pub mod LinkLaws
+pub mod Changed
+pub mod Wires

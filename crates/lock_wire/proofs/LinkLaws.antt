@@ -1,11 +1,12 @@
 -- Links over the list of all posts: one more, the first one off, and those of a node gone.
-use Rattle.std.proofs.Common.{◌≡◌, ◌≢◌, ◌<◌, ℕ, zero, suc, length, get_or, take, drop, List, [], ◌∷◌, ◌++◌, Bool, true, false, not, ◌==◌, ◌&&◌, ◌||◌, cond, Option, Some, None, refl, sym, ap, ◌∙◌, subst, arith, if◌then◌else◌}
+use Rattle.std.proofs.Common.{◌≡◌, ◌≢◌, ◌<◌, ◌+◌, ℕ, zero, suc, length, get_or, take, drop, List, [], ◌∷◌, ◌++◌, Bool, true, false, not, ◌==◌, ◌&&◌, ◌||◌, Option, Some, None, refl, sym, ap, ◌∙◌, subst, arith, if◌then◌else◌}
 use Rattle.std.specs.List.{remove}
-use Rattle.std.specs.List.Retain.{RetainsInTurn}
+use Rattle.std.specs.Prelude.{filter}
 use Rattle.std.proofs.lemmas.Bool.Decides.{nat_tests}
 use Rattle.std.proofs.Math.Path.{fun_ext}
-use Rattle.lock_wire.specs.Packets.{IsOfResource, AreOfResources, is_on, link_of, first, rest}
+use Rattle.lock_wire.specs.Packets.{IsOfResource, AreOfResources, is_on, link_of, first, rest, is_of, without_posts}
 use Rattle.lock_wire.specs.Machine.{with_cell}
+use Rattle.lock_wire.specs.Parts.{IsFirstOn}
 use Rattle.lock_wire.specs.declared.links.Post.{Post}
 use Rattle.lock_wire.specs.declared.packet.Packet.{Packet}
 
@@ -57,7 +58,7 @@ first-packet [] a b i d lt none on = absurd (omega (arith, lt))
 first-packet (x ∷ posts) a b zero d lt none on = rw on refl
 first-packet (x ∷ posts) a b (suc i) d lt none on =
     let o : is_on a b x ≡ false = off x (take i posts) a b none in
-    rw (o, o) (first-packet posts a b i d (omega (arith, lt)) (then_off x (take i posts) a b none) on)
+    rw o (first-packet posts a b i d (omega (arith, lt)) (then_off x (take i posts) a b none) on)
 
 others : (x : Post) (a b m s : ℕ) → is_on a b x ≡ true → ((m == a) && (s == b)) ≡ false → is_on m s x ≡ false
 others x a b m s on ne = grind (arith, nat_tests)
@@ -66,6 +67,14 @@ pub other-packets : (posts : List Post) (a b i : ℕ) (d : Post) (m s : ℕ) →
 other-packets [] a b i d m s lt on ne = absurd (omega (arith, lt))
 other-packets (x ∷ posts) a b zero d m s lt on ne = let o : is_on m s x ≡ false = others x a b m s on ne in rw o refl
 other-packets (x ∷ posts) a b (suc i) d m s lt on ne = ap (λ l. if is_on m s x then x.packet ∷ l else l) (other-packets posts a b i d m s (omega (arith, lt)) on ne)
+
+pub none_more : (posts : List Post) (a b i : ℕ) (d : Post) → i < length posts → link_of (take i posts) a b ≡ [] → is_on a b (get_or posts i d) ≡ false → link_of (take (i + 1) posts) a b ≡ []
+none_more [] a b i d lt none on = absurd (omega (arith, lt))
+none_more (x ∷ posts) a b zero d lt none on = rw on refl
+none_more (x ∷ posts) a b (suc i) d lt none on =
+    let o : is_on a b x ≡ false = off x (take i posts) a b none in
+    let e : suc i + 1 ≡ suc (i + 1) = omega arith in
+    rw (e, o) (none_more posts a b i d (omega (arith, lt)) (then_off x (take i posts) a b none) on)
 
 here_or_else : {A : Type 0} (b : Bool) (x y z : A) → (b ≡ true → x ≡ y) → (b ≡ false → x ≡ z) → x ≡ (if b then y else z)
 here_or_else true x y z p q = p refl
@@ -81,6 +90,16 @@ link-remove posts a b i d lt none on =
         (λ t. let same = both_same m s a b t in ap (λ k. link_of (remove posts i) k s) same.0 ∙ ap (link_of (remove posts i) a) same.1 ∙ ap rest (sym (first-packet posts a b i d lt none on)))
         (λ f. other-packets posts a b i d m s lt on f)))
 
+pub first_is : (posts : List Post) (a b i : ℕ) (p : Post) → IsFirstOn posts a b i → p ≡ get_or posts i p → Some p.packet ≡ first (link_of posts a b)
+first_is posts a b i p f e = ap (λ (q : Post). Some q.packet) e ∙ sym (ap first (first-packet posts a b i p f.below f.none_before (f.on p)))
+
+pub range_is : (posts : List Post) (a b i : ℕ) (p : Post) → IsFirstOn posts a b i → p ≡ get_or posts i p → AreOfResources posts → IsOfResource p.packet
+range_is posts a b i p f e all = subst (λ (q : Post). IsOfResource q.packet) (sym e) (resource_at posts i p f.below all)
+
+pub taken_off : (posts : List Post) (a b i : ℕ) → IsFirstOn posts a b i → link_of (remove posts i) ≡ with_cell (link_of posts) a b (rest (link_of posts a b))
+taken_off [] a b i f = absurd (omega (arith, f.below))
+taken_off (x ∷ posts) a b i f = link-remove (x ∷ posts) a b i x f.below f.none_before (f.on x)
+
 sent_at : (f : ℕ → ℕ → List Packet) (b c : Bool) (m s a d : ℕ) (p : Packet) → (b ≡ true → m ≡ a) → (c ≡ true → s ≡ d) → (if b && c then f m s ++ p ∷ [] else f m s) ≡ (if b && c then f a d ++ p ∷ [] else f m s)
 sent_at f true true m s a d p e g = ap (λ k. f k s ++ p ∷ []) (e refl) ∙ ap (λ k. f a k ++ p ∷ []) (g refl)
 sent_at f true false m s a d p e g = refl
@@ -95,13 +114,6 @@ link-send posts p =
 
 -- Those of a node gone.
 
-abbrev pub is_of : ℕ → Post → Bool
-is_of n p = (p.from == n) || (p.to == n)
-
-abbrev pub without_posts : ℕ → List Post → List Post
-without_posts n [] = []
-without_posts n (p ∷ posts) = if is_of n p then without_posts n posts else p ∷ without_posts n posts
-
 pub link-without : (n a b : ℕ) (posts : List Post) → link_of (without_posts n posts) a b ≡ (if (a == n) || (b == n) then [] else link_of posts a b)
 link-without n a b [] = grind arith
 link-without n a b (x ∷ posts) = grind (arith, nat_tests, link-without n a b posts)
@@ -110,12 +122,6 @@ pub resources-without : (n : ℕ) (posts : List Post) → AreOfResources posts �
 resources-without n [] all = tt
 resources-without n (x ∷ posts) all = elim (is_of n x) as (λ t. AreOfResources (if t then without_posts n posts else x ∷ without_posts n posts)) [ true ↦ resources-without n posts all.1 | false ↦ (all.0, resources-without n posts all.1) ]
 
-kept : (gone b : Bool) (x y : Post) (zs ws : List Post) → b ≡ not gone → y ≡ x → zs ≡ ws → cond b (y ∷ zs) zs ≡ (if gone then ws else x ∷ ws)
-kept gone b x y zs ws e f g = grind arith
-
-pub posts-retain : {F : Type 0} (R : F → Post → Bool → F → Post → Type 0) (n : ℕ) (f : F) → ((x : Post) (b : Bool) (f' : F) (y : Post) → R f x b f' y → (b ≡ not (is_of n x)) × (f' ≡ f) × (y ≡ x)) → (xs ys : List Post) → RetainsInTurn R f xs ys → ys ≡ without_posts n xs
-posts-retain R n f h [] ys r = r
-posts-retain {F} R n f h (x ∷ xs) ys (b, f', y, k, zs, rest, e) =
-    let s = h x b f' y k in
-    let r : zs ≡ without_posts n xs = posts-retain R n f h xs zs (subst (λ g. RetainsInTurn R g xs zs) s.1 rest) in
-    e ∙ kept (is_of n x) b x y zs (without_posts n xs) s.0 s.2 r
+pub without_posts-is : (n : ℕ) (posts : List Post) → filter (λ (p : Post). not (p.from == n) && not (p.to == n)) posts ≡ without_posts n posts
+without_posts-is n [] = refl
+without_posts-is n (x ∷ posts) = grind (arith, without_posts-is n posts)

@@ -1,8 +1,10 @@
 -- Lists as functions of their index, where one element is replaced.
-use Rattle.std.proofs.Common.{◌≡◌, ◌<◌, ◌≤◌, ◌+◌, nat_lt, ℕ, zero, suc, length, get_or, set, replicate, List, [], ◌∷◌, Bool, true, false, ◌==◌, ◌&&◌, refl, sym, ap, ◌∙◌, arith, if◌then◌else◌}
+use Rattle.std.proofs.Common.{◌≡◌, ◌<◌, ◌≤◌, ◌+◌, ◌-◌, nat_lt, ℕ, zero, suc, length, get_or, set, replicate, List, [], ◌∷◌, Bool, true, false, ◌==◌, ◌&&◌, Some, refl, sym, ap, ◌∙◌, arith, if◌then◌else◌}
 use Rattle.std.proofs.lemmas.List.{get_or_default, get_or_past}
 use Rattle.std.proofs.lemmas.Bool.Decides.{nat_tests}
 use Rattle.std.proofs.Math.Path.{fun_ext}
+use Rattle.dlm_modes.specs.First.{first_such}
+use Rattle.dlm_modes.proofs.FirstLaws.{first_such_found}
 use Rattle.dlm_modes.specs.Points.{with_at}
 use Rattle.lock_wire.specs.Machine.{with_cell}
 
@@ -42,5 +44,19 @@ row-set f rows i row d j v lt e =
         ∙ in_row (n == i) (s == j) v (f row s) (f (get_or rows i d) s) (f (get_or rows n d) s) (ap (λ g. g s) e) (λ t. same_at n i (λ k. f (get_or rows k d) s) t)))
 
 -- one row
-pub rows-set : {A B : Type 0} (f : A → ℕ → B) (rows : List A) (i : ℕ) (row d : A) → i < length rows → (λ n. f (get_or (set rows i row) n d)) ≡ (λ n. if n == i then f row else f (get_or rows n d))
-rows-set f rows i row d lt = fun_ext (λ n. ap f (get-set rows i n row d lt) ∙ if_ap f (n == i) row (get_or rows n d))
+pub rows-set : {A B : Type 0} (f : A → ℕ → B) (rows : List A) (i : ℕ) (row d : A) (n : ℕ) → i < length rows → f (get_or (set rows i row) n d) ≡ (if n == i then f row else f (get_or rows n d))
+rows-set f rows i row d n lt = ap f (get-set rows i n row d lt) ∙ if_ap f (n == i) row (get_or rows n d)
+
+-- one test that finds
+pub found_at : (p : ℕ → Bool) (i n : ℕ) → i < n → p i ≡ true → first_such p i (n - i) ≡ Some i
+found_at p i n lt e = first_such_found p i n lt e
+
+-- lists with the same elements
+pub same_lists : {A : Type 0} (xs ys : List A) (d : A) → length xs ≡ length ys → ((r : ℕ) → r < length xs → get_or xs r d ≡ get_or ys r d) → xs ≡ ys
+same_lists [] [] d e h = refl
+same_lists [] (y ∷ ys) d e h = absurd (omega (arith, e))
+same_lists (x ∷ xs) [] d e h = absurd (omega (arith, e))
+same_lists (x ∷ xs) (y ∷ ys) d e h =
+    let one : x ≡ y = h 0 (omega arith) in
+    let more : xs ≡ ys = same_lists xs ys d (omega (arith, e)) (λ r lt. h (suc r) (omega (arith, lt))) in
+    rw (one, more) refl

@@ -211,10 +211,14 @@ abbrev pub calls_to : ℕ → Option ℕ → List Packet
 calls_to r None = []
 calls_to r (Some asker) = packets.Called r asker ∷ []
 
+-- whom the master is to name to the node
+abbrev pub named : Wire → ℕ → ℕ → ℕ → Option ℕ
+named w m r n = new_caller (caller_of (w.table m r) n) ((w.ward r).called n)
+
 -- the master names the asker at the head to each holder that disagrees with it
 abbrev pub calls_out : Wire → ℕ → ℕ → Wire
-calls_out w m r = record (with_ward w r (record (w.ward r) { called = λ n. last_caller (caller_of (w.table m r) n) ((w.ward r).called n) })) {
-  link = λ a b. if a == m then w.link a b ++ calls_to r (new_caller (caller_of (w.table m r) b) ((w.ward r).called b)) else w.link a b;
+calls_out w m r = record (with_ward w r (record (w.ward r) { called = λ n. last_caller (named w m r n) ((w.ward r).called n) })) {
+  link = λ a b. if a == m then w.link a b ++ calls_to r (named w m r b) else w.link a b;
 }
 
 -- unless a report on the resource is awaited
@@ -232,7 +236,7 @@ reported_one w a b r None = w
 reported_one w a b r (Some l) = then_calls (taken_report (with_table w b r (entered (w.table b r) a l)) r a) b r
 
 -- the states of the resources below a number are entered, one after the other
-abbrev pub reported : Wire → ℕ → ℕ → List (Option Local) → ℕ → Wire
+unfoldable pub reported : Wire → ℕ → ℕ → List (Option Local) → ℕ → Wire
 reported w a b states zero = w
 reported w a b states (suc r) = reported_one (reported w a b states r) a b r (slice_index_or states r None)
 
@@ -274,7 +278,7 @@ abbrev pub heir : Wire → Option ℕ
 heir w = first_such w.live 0 16
 
 -- what node n tells of the resources of d: by resource, below a number
-abbrev pub states_below : Wire → ℕ → ℕ → ℕ → List (Option Local)
+unfoldable pub states_below : Wire → ℕ → ℕ → ℕ → List (Option Local)
 states_below w d n zero = []
 states_below w d n (suc r) = states_below w d n r ++ (if master_of w r == d then Some (w.local n r) else None) ∷ []
 

@@ -42,3 +42,17 @@ first (p ∷ packets) = Some p
 abbrev pub rest : List Packet → List Packet
 rest [] = []
 rest (p ∷ packets) = packets
+
+-- the post is from the node, or to it
+abbrev pub is_of : ℕ → Post → Bool
+is_of n p = (p.from == n) || (p.to == n)
+
+-- the posts without those of the node
+abbrev pub without_posts : ℕ → List Post → List Post
+without_posts n [] = []
+without_posts n (p ∷ posts) = if is_of n p then without_posts n posts else p ∷ without_posts n posts
+
+-- at most so many Calleds follow: one to each node, for each resource of which it speaks
+abbrev pub most_calls : Packet → ℕ
+most_calls (packets.Report states) = 336
+most_calls p = 16

@@ -1,8 +1,9 @@
 -- What a spread lock space keeps, as plain data, and the machine's state for which it stands.
-use Rattle.std.specs.Prelude.{◌≡◌, ℕ, ◌<◌, ◌≤◌, length, take, slice_index_or, Bool, true, false, List, [], Option, None}
+use Rattle.std.specs.Prelude.{◌≡◌, ℕ, ◌==◌, ◌&&◌, nat_lt, ◌++◌, ◌∷◌, if◌then◌else◌, ◌<◌, ◌≤◌, length, take, slice_index_or, Bool, true, false, List, [], Option, None}
+use Rattle.dlm_modes.specs.Points.{with_at}
 use Rattle.dlm_space.specs.Locks.{Lock}
 use Rattle.dlm_space.specs.Parts.{Part, locks_of}
-use Rattle.lock_wire.specs.Machine.{Ward, Wire, no_ward}
+use Rattle.lock_wire.specs.Machine.{Ward, Wire, no_ward, with_cell, with_ward, named, last_caller, calls_to, report_of}
 use Rattle.lock_wire.specs.Packets.{is_on, link_of}
 use Rattle.lock_wire.specs.declared.links.Post.{Post}
 use Rattle.lock_wire.specs.declared.local.Local.{Local}
@@ -69,3 +70,21 @@ pub record IsFirstOn (posts : List Post) (a b i : ℕ) : Type 0 where
   pub below : i < length posts
   pub none_before : link_of (take i posts) a b ≡ []
   pub on : (d : Post) → is_on a b (slice_index_or posts i d) ≡ true
+
+-- the node is told whom the master names to it
+abbrev pub calls_one : Wire → ℕ → ℕ → ℕ → Wire
+calls_one w m r n = record (with_ward w r (record (w.ward r) { called = with_at (w.ward r).called n (last_caller (named w m r n) ((w.ward r).called n)) })) {
+  link = with_cell w.link m n (w.link m n ++ calls_to r (named w m r n));
+}
+
+-- the nodes below a number are told
+abbrev pub calls_below : Wire → ℕ → ℕ → ℕ → Wire
+calls_below w m r k = record (with_ward w r (record (w.ward r) { called = λ n. if nat_lt n k then last_caller (named w m r n) ((w.ward r).called n) else (w.ward r).called n })) {
+  link = λ a b. if (a == m) && nat_lt b k then w.link a b ++ calls_to r (named w m r b) else w.link a b;
+}
+
+-- the reports of the nodes below a number are sent to the new master
+abbrev pub reports_below : Wire → ℕ → ℕ → ℕ → Wire
+reports_below w d m k = record w {
+  link = λ a b. if (b == m) && (w.live a && nat_lt a k) then w.link a b ++ report_of w d a ∷ [] else w.link a b;
+}

@@ -1,6 +1,6 @@
-ghost use Rattle.std.specs.Prelude.{◌≡◌, ◌<◌, ◌≤◌, ◌+◌, ◌++◌, ◌∷◌, [], if◌then◌else◌, ◌==◌, ◌||◌, IfNone, IfSome, OnOk, OnErr};
+ghost use Rattle.std.specs.Prelude.{◌≡◌, ◌<◌, ◌≤◌, ◌+◌, ◌++◌, ◌∷◌, [], if◌then◌else◌, ◌==◌, ◌||◌, IfNone, IfSome, OnOk, OnErr, vec_len, vec_capacity};
 ghost use Rattle.lock_wire.specs.Parts.{IsFirstOn};
-ghost use Rattle.lock_wire.specs.Packets.{IsOfResource, first, rest, link_of};
+ghost use Rattle.lock_wire.specs.Packets.{IsOfResource, is_on, without_posts, first, rest, link_of};
 ghost use Rattle.lock_wire.specs.Parts.{links_of};
 ghost use Rattle.lock_wire.specs.Machine.{with_cell};
 
@@ -36,17 +36,32 @@ impl Model for Links {
     ghost invariant = { λ l. AreOfResources l.posts.items };
 }
 
+fn is_on(p: &Post, from: NodeId, to: NodeId) -> bool
+    ensures { result ≡ is_on from to p.now }
+{
+    p.from == from && p.to == to
+}
+
 // Where the first packet on the link lies.
 fn first_at(posts: &[Post], from: NodeId, to: NodeId) -> Option<usize>
     ensures found { IfSome result (λ i. IsFirstOn posts.now from to i) }
     ensures none { IfNone result (link_of posts.now from to ≡ []) }
 {
     for (i, p) in posts.iter().enumerate() {
-        if p.from == from && p.to == to {
+        if is_on(p, from, to) {
             return Some(i);
         }
     }
     None
+}
+
+// Drops all posts from the node and to it.
+fn drop_posts(posts: &mut Vec<Post>, n: NodeId)
+    ensures items { posts.new.items ≡ without_posts n posts.old.items }
+    ensures fewer { vec_len posts.new ≤ vec_len posts.old }
+    ensures capacity { vec_capacity posts.new ≡ vec_capacity posts.old }
+{
+    posts.retain(|p| p.from != n && p.to != n);
 }
 
 impl Links {
@@ -101,6 +116,6 @@ impl Links {
         ensures gone { links_of self.new ≡ (λ a b. if (a == n) || (b == n) then [] else links_of self.old a b) }
         ensures room { self.old.room ≤ self.new.room }
     {
-        self.posts.retain(|p| p.from != n && p.to != n);
+        drop_posts(&mut self.posts, n);
     }
 }

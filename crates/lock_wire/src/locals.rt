@@ -1,4 +1,4 @@
-ghost use Rattle.std.specs.Prelude.{◌≡◌, ◌<◌, ◌==◌, if◌then◌else◌};
+ghost use Rattle.std.specs.Prelude.{◌≡◌, ◌<◌, ◌==◌, if◌then◌else◌, length, slice_set};
 ghost use Rattle.lock_wire.specs.Parts.{locals_of};
 ghost use Rattle.lock_wire.specs.Machine.{with_cell};
 ghost use Rattle.lock_wire.specs.declared.local.Local.TheVariants.{Free};
@@ -20,6 +20,14 @@ impl Model for Locals {
     ghost Value = { List (List Local) };
 
     ghost view = { λ l. l.rows };
+}
+
+fn put(row: &mut [Local; 21], res: usize, state: Local)
+    requires { res < 21 }
+    ensures row { row.new ≡ slice_set row.old res state }
+    ensures resources { length row.old ≡ 21 }
+{
+    row[res] = state;
 }
 
 impl Locals {
@@ -45,7 +53,7 @@ impl Locals {
         requires res { res < 21 }
         ensures { locals_of self.new ≡ with_cell (locals_of self.old) n res state }
     {
-        self.rows[n as usize][res] = state;
+        put(&mut self.rows[n as usize], res, state);
     }
 
     // The node's are free.

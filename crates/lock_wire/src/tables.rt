@@ -1,7 +1,9 @@
-ghost use Rattle.std.specs.Prelude.{◌≡◌, ◌<◌, ℕ, IfOk, OnOk, OnErr, Some};
+ghost use Rattle.std.specs.Prelude.{◌≡◌, ◌<◌, ℕ, IfOk, OnOk, OnErr, Some, unwrap_or};
 ghost use Rattle.std.specs.Result.{result_err};
-ghost use Rattle.dlm_modes.specs.Modes.{weaker};
-ghost use Rattle.dlm_space.specs.Locks.{new_locks, mode_of, all_died, granted, grant_refusal, grant_answer};
+ghost use Rattle.dlm_modes.specs.Points.{with_at};
+ghost use Rattle.dlm_modes.specs.declared.mode.Mode.TheVariants.{NL};
+ghost use Rattle.dlm_space.specs.Locks.{new_locks, is_writer, all_died, granted, grant_refusal, grant_answer};
+ghost use Rattle.dlm_space.specs.Parts.{locks_of};
 ghost use Rattle.lock_wire.specs.Parts.{tables_of};
 ghost use Rattle.lock_wire.specs.Machine.{with_cell, asking, asking_now, converts, releases, entered, convert_writes, release_writes, caller_of};
 
@@ -29,8 +31,80 @@ impl Model for Tables {
     ghost invariant = { λ t. length t.spaces.items ≡ 16 };
 }
 
-fn is_writer(mode: Option<Mode>) -> bool {
+fn is_writer(mode: Option<Mode>) -> bool
+    ensures { result ≡ is_writer (unwrap_or mode NL) }
+{
     matches!(mode, Some(Mode::PW | Mode::EX))
+}
+
+// The calls of a master on its table. Where the table refuses one nothing changes.
+
+fn ask(space: &mut Space, n: NodeId, res: usize, mode: Mode)
+    requires node { n < 16 }
+    requires res { res < 21 }
+    ensures { locks_of space.new ≡ with_at (locks_of space.old) res (asking (locks_of space.old res) n mode) }
+{
+    let _ = space.ask(n, res, mode);
+}
+
+fn ask_now(space: &mut Space, n: NodeId, res: usize, mode: Mode)
+    requires node { n < 16 }
+    requires res { res < 21 }
+    ensures { locks_of space.new ≡ with_at (locks_of space.old) res (asking_now (locks_of space.old res) n mode) }
+{
+    let _ = space.ask_now(n, res, mode);
+}
+
+// It says whether the value was written to the block.
+fn convert(space: &mut Space, n: NodeId, res: usize, mode: Mode, value: Option<Block>) -> bool
+    requires node { n < 16 }
+    requires res { res < 21 }
+    ensures writes { result ≡ convert_writes (locks_of space.old res) n mode value }
+    ensures lock { locks_of space.new ≡ with_at (locks_of space.old) res (converts (locks_of space.old res) n mode value) }
+{
+    let from = space.holder(res, n);
+    match space.convert(n, res, mode, value) {
+        Ok(Converted::Now) => value.is_some() && is_writer(from),
+        _ => false,
+    }
+}
+
+// It says whether the value was written to the block.
+fn release(space: &mut Space, n: NodeId, res: usize, value: Option<Block>) -> bool
+    requires node { n < 16 }
+    requires res { res < 21 }
+    ensures writes { result ≡ release_writes (locks_of space.old res) n value }
+    ensures lock { locks_of space.new ≡ with_at (locks_of space.old) res (releases (locks_of space.old res) n value) }
+{
+    let from = space.holder(res, n);
+    let _ = space.release(n, res, value);
+    value.is_some() && is_writer(from)
+}
+
+// What the node reports of its own lock.
+fn enter(space: &mut Space, n: NodeId, res: usize, state: Local)
+    requires node { n < 16 }
+    requires res { res < 21 }
+    ensures { locks_of space.new ≡ with_at (locks_of space.old) res (entered (locks_of space.old res) n state) }
+{
+    match state {
+        Local::Free => {}
+        Local::Asking(to) => ask(space, n, res, to),
+        Local::Held(mode) => ask_now(space, n, res, mode),
+        Local::Converting(from, to) => {
+            ask_now(space, n, res, from);
+            let _ = convert(space, n, res, to, None);
+        }
+    }
+}
+
+fn die_all(spaces: &mut [Space], n: NodeId)
+    requires { n < 16 }
+    ensures { tables_of spaces.new ≡ (λ m. all_died (tables_of spaces.old m) n) }
+{
+    for space in spaces {
+        space.die(n);
+    }
 }
 
 impl Tables {
@@ -38,30 +112,21 @@ impl Tables {
     pub fn new(alloc: Global) -> Result<Tables, AllocError>
         ensures { IfOk result (λ t. tables_of t ≡ (λ m. new_locks)) }
     {
-        let mut spaces = Vec::with_capacity(alloc, 16)?;
-        for _ in 0..16 {
+        let mut spaces = Vec::new(alloc);
+        for _k in 0..16usize {
             spaces.push(Space::new())?;
         }
         Ok(Tables { spaces })
     }
 
-    // The node asks. Where the table refuses it nothing changes.
+    // The node asks.
     pub fn ask(&mut self, m: NodeId, n: NodeId, res: usize, mode: Mode)
         requires master { m < 16 }
         requires node { n < 16 }
         requires res { res < 21 }
         ensures { tables_of self.new ≡ with_cell (tables_of self.old) m res (asking (tables_of self.old m res) n mode) }
     {
-        let _ = self.spaces[m as usize].ask(n, res, mode);
-    }
-
-    fn ask_now(&mut self, m: NodeId, n: NodeId, res: usize, mode: Mode)
-        requires master { m < 16 }
-        requires node { n < 16 }
-        requires res { res < 21 }
-        ensures { tables_of self.new ≡ with_cell (tables_of self.old) m res (asking_now (tables_of self.old m res) n mode) }
-    {
-        let _ = self.spaces[m as usize].ask_now(n, res, mode);
+        ask(&mut self.spaces[m as usize], n, res, mode);
     }
 
     // The node converts. It says whether the value was written to the block.
@@ -72,10 +137,7 @@ impl Tables {
         ensures writes { result ≡ convert_writes (tables_of self.old m res) n mode value }
         ensures table { tables_of self.new ≡ with_cell (tables_of self.old) m res (converts (tables_of self.old m res) n mode value) }
     {
-        let space = &mut self.spaces[m as usize];
-        let from = space.holder(res, n);
-        let answer = space.convert(n, res, mode, value);
-        value.is_some() && matches!(answer, Ok(Converted::Now)) && is_writer(from)
+        convert(&mut self.spaces[m as usize], n, res, mode, value)
     }
 
     // The node releases. It says whether the value was written to the block.
@@ -86,10 +148,7 @@ impl Tables {
         ensures writes { result ≡ release_writes (tables_of self.old m res) n value }
         ensures table { tables_of self.new ≡ with_cell (tables_of self.old) m res (releases (tables_of self.old m res) n value) }
     {
-        let space = &mut self.spaces[m as usize];
-        let from = space.holder(res, n);
-        let _ = space.release(n, res, value);
-        value.is_some() && is_writer(from)
+        release(&mut self.spaces[m as usize], n, res, value)
     }
 
     // Enters what the node reports of its own lock.
@@ -99,15 +158,7 @@ impl Tables {
         requires res { res < 21 }
         ensures { tables_of self.new ≡ with_cell (tables_of self.old) m res (entered (tables_of self.old m res) n state) }
     {
-        match state {
-            Local::Free => {}
-            Local::Asking(to) => self.ask(m, n, res, to),
-            Local::Held(mode) => self.ask_now(m, n, res, mode),
-            Local::Converting(from, to) => {
-                self.ask_now(m, n, res, from);
-                let _ = self.convert(m, n, res, to, None);
-            }
-        }
+        enter(&mut self.spaces[m as usize], n, res, state);
     }
 
     // Serves the head.
@@ -127,9 +178,7 @@ impl Tables {
         requires { n < 16 }
         ensures { tables_of self.new ≡ (λ m. all_died (tables_of self.old m) n) }
     {
-        for space in &mut self.spaces {
-            space.die(n);
-        }
+        die_all(&mut self.spaces, n);
     }
 
     // The asker at the head whose mode disagrees with what the node holds.

@@ -1,10 +1,9 @@
-ghost use Rattle.std.specs.Prelude.{◌≡◌, ◌<◌, ◌≤◌, ◌==◌, ◌&&◌, false, Some, None, not, if◌then◌else◌};
+ghost use Rattle.std.specs.Prelude.{◌≡◌, ◌%◌, ◌<◌, ◌≤◌, ◌==◌, ◌&&◌, false, Some, None, not, if◌then◌else◌, length, slice_set};
 ghost use Rattle.dlm_modes.specs.Points.{with_at};
-ghost use Rattle.lock_wire.specs.Parts.{wards_of, live_of};
-ghost use Rattle.lock_wire.specs.Machine.{first_ward, heirs_ward};
+ghost use Rattle.lock_wire.specs.Parts.{ward_of, wards_of, live_of};
+ghost use Rattle.lock_wire.specs.Machine.{no_ward, first_ward, heirs_ward};
 
 use mdc_types::NodeId;
-use std::array;
 use std::marker::Model;
 
 // Who cares for a resource.
@@ -37,6 +36,53 @@ impl Model for Wards {
     ghost invariant = { λ w. AreInRange w.wards };
 }
 
+fn put_flag(flags: &mut [bool; 16], n: NodeId, flag: bool)
+    requires { n < 16 }
+    ensures flags { flags.new ≡ slice_set flags.old n flag }
+    ensures nodes { length flags.old ≡ 16 }
+{
+    flags[n as usize] = flag;
+}
+
+fn put_caller(callers: &mut [Option<NodeId>; 16], n: NodeId, caller: Option<NodeId>)
+    requires { n < 16 }
+    ensures callers { callers.new ≡ slice_set callers.old n caller }
+    ensures nodes { length callers.old ≡ 16 }
+{
+    callers[n as usize] = caller;
+}
+
+// Of the node whose number is that of the resource, modulo the number of nodes.
+fn first(nodes: u8, res: usize) -> Ward
+    requires { 1 ≤ nodes }
+    ensures ward { ward_of result ≡ record no_ward { master = res % nodes } }
+    ensures master { result.master ≡ res % nodes }
+{
+    Ward {
+        master: (res % nodes as usize) as NodeId,
+        awaited: [false; 16],
+        stale: false,
+        called: [None; 16],
+    }
+}
+
+// After the death of a node whose resources another takes over.
+fn after_death(ward: &Ward, dead: NodeId, m: NodeId, live: &[bool; 16]) -> Ward
+    ensures ward { ward_of result ≡ (if ward.now.master == dead then heirs_ward (live_of live.now) m else ward_of ward.now) }
+    ensures master { result.master ≡ (if ward.now.master == dead then m else ward.now.master) }
+{
+    if ward.master == dead {
+        Ward {
+            master: m,
+            awaited: *live,
+            stale: true,
+            called: [None; 16],
+        }
+    } else {
+        *ward
+    }
+}
+
 impl Wards {
     // The master is the number modulo that of the nodes.
     pub fn new(nodes: u8) -> Wards
@@ -44,14 +90,11 @@ impl Wards {
         requires most { nodes ≤ 16 }
         ensures { wards_of result ≡ first_ward nodes }
     {
-        Wards {
-            wards: array::from_fn(|r| Ward {
-                master: (r % nodes as usize) as NodeId,
-                awaited: [false; 16],
-                stale: false,
-                called: [None; 16],
-            }),
+        let mut wards = [first(nodes, 0); 21];
+        for r in 0..21 {
+            wards[r] = first(nodes, r);
         }
+        Wards { wards }
     }
 
     pub fn master(&self, res: usize) -> NodeId
@@ -93,7 +136,7 @@ impl Wards {
         requires node { n < 16 }
         ensures { wards_of self.new ≡ with_at (wards_of self.old) res (record (wards_of self.old res) { awaited = with_at (wards_of self.old res).awaited n false }) }
     {
-        self.wards[res].awaited[n as usize] = false;
+        put_flag(&mut self.wards[res].awaited, n, false);
     }
 
     // Where a value was written to the block it isn't stale any more.
@@ -110,7 +153,7 @@ impl Wards {
         requires node { n < 16 }
         ensures { wards_of self.new ≡ with_at (wards_of self.old) res (record (wards_of self.old res) { called = with_at (wards_of self.old res).called n (Some asker) }) }
     {
-        self.wards[res].called[n as usize] = Some(asker);
+        put_caller(&mut self.wards[res].called, n, Some(asker));
     }
 
     // Who was named to whom is forgotten.
@@ -128,14 +171,7 @@ impl Wards {
         ensures { wards_of self.new ≡ (λ r. if (wards_of self.old r).master == dead then heirs_ward (live_of live.now) m else wards_of self.old r) }
     {
         for ward in &mut self.wards {
-            if ward.master == dead {
-                *ward = Ward {
-                    master: m,
-                    awaited: *live,
-                    stale: true,
-                    called: [None; 16],
-                };
-            }
+            *ward = after_death(ward, dead, m, live);
         }
     }
 }

@@ -1,10 +1,10 @@
-ghost use Rattle.std.specs.Prelude.{◌≡◌, ◌<◌, ◌≤◌, ◌++◌, ◌∷◌, [], IfOk, IfSome, IfErr, OnOk, OnErr, Some};
+ghost use Rattle.std.specs.Prelude.{◌≡◌, ◌<◌, ◌≤◌, ◌+◌, ◌++◌, ◌∷◌, [], IfOk, IfSome, IfErr, OnOk, OnErr, Some};
 ghost use Rattle.std.specs.Option.{option_map};
 ghost use Rattle.std.specs.Result.{result_err};
 ghost use Rattle.lock_wire.specs.Locals as locals;
-ghost use Rattle.lock_wire.specs.Packets.{first, kind_of};
-ghost use Rattle.lock_wire.specs.Machine.{opened, no_node, node_refusal, ask_refusal_at, convert_refusal_at, release_refusal_at, deliver_refusal, serve_refusal, IsAnswered, first_awaited, with_local, asked_of, converted_of, answer_from, released_of, calls_out, then_calls, taken_report, reported_one, reported, received, delivered, serve_answer, served, heir, report_of, without_node, states_below, taken_over, died_of, holds_of, written};
-ghost use Rattle.lock_wire.specs.Parts.{wire_of};
+ghost use Rattle.lock_wire.specs.Packets.{IsOfResource, most_calls, first, kind_of};
+ghost use Rattle.lock_wire.specs.Machine.{opened, no_node, node_refusal, ask_refusal_at, convert_refusal_at, release_refusal_at, deliver_refusal, serve_refusal, IsAnswered, first_awaited, with_local, asked_of, converted_of, answer_from, released_of, calls_out, then_calls, taken_report, reported_one, reported, received, named, delivered, serve_answer, served, heir, report_of, without_node, states_below, taken_over, died_of, holds_of, written};
+ghost use Rattle.lock_wire.specs.Parts.{wire_of, calls_one, reports_below};
 
 use crate::links::Links;
 use crate::locals::Locals;
@@ -165,50 +165,96 @@ impl Wire {
         None
     }
 
-    // The master names the asker at the head to the node, where that disagrees with it and it wasn't
-    // the one named last.
-    fn call_one(&mut self, m: NodeId, res: usize, n: NodeId) {
-        let Some(asker) = self.tables.caller(m, n, res) else {
-            return;
-        };
-        let last = self.wards.called(res, n);
-        self.wards.call(res, n, asker);
-        if last != Some(asker) {
+    // Whom the master is to name to the node: the asker at the head, where that disagrees with what the
+    // node holds, and wasn't the one named last.
+    fn named(&self, m: NodeId, res: usize, n: NodeId) -> Option<NodeId>
+        requires master { m < 16 }
+        requires res { res < 21 }
+        requires node { n < 16 }
+        ensures { result ≡ named (wire_of self.now) m res n }
+    {
+        let asker = self.tables.caller(m, n, res)?;
+        if self.wards.called(res, n) == Some(asker) {
+            return None;
+        }
+        Some(asker)
+    }
+
+    fn call_one(&mut self, m: NodeId, res: usize, n: NodeId)
+        requires master { m < 16 }
+        requires res { res < 21 }
+        requires node { n < 16 }
+        requires room { 0 < self.old.links.room }
+        ensures wire { wire_of self.new ≡ calls_one (wire_of self.old) m res n }
+        ensures room { self.old.links.room ≤ self.new.links.room + 1 }
+    {
+        if let Some(asker) = self.named(m, res, n) {
+            self.wards.call(res, n, asker);
             self.links.send(m, n, Packet::Called(res, asker));
         }
     }
 
     // The master names the asker at the head to each holder that disagrees with it.
-    fn call_out(&mut self, m: NodeId, res: usize) {
+    fn call_out(&mut self, m: NodeId, res: usize)
+        requires master { m < 16 }
+        requires res { res < 21 }
+        requires room { 16 ≤ self.old.links.room }
+        ensures wire { wire_of self.new ≡ calls_out (wire_of self.old) m res }
+        ensures room { self.old.links.room ≤ self.new.links.room + 16 }
+    {
         for n in 0..16 {
             self.call_one(m, res, n);
         }
     }
 
     // The same, unless a report on the resource is awaited.
-    fn call_unless(&mut self, m: NodeId, res: usize) {
-        if self.first_awaited(res).is_none() {
-            self.call_out(m, res);
+    fn call_unless(&mut self, m: NodeId, res: usize)
+        requires master { m < 16 }
+        requires res { res < 21 }
+        requires room { 16 ≤ self.old.links.room }
+        ensures wire { wire_of self.new ≡ then_calls (wire_of self.old) m res }
+        ensures room { self.old.links.room ≤ self.new.links.room + 16 }
+    {
+        match self.first_awaited(res) {
+            None => self.call_out(m, res),
+            Some(_) => {}
         }
     }
 
     // The master enters what the node reports of its lock on one resource.
-    fn take_state(&mut self, m: NodeId, n: NodeId, res: usize, state: Option<Local>) {
-        let Some(state) = state else {
-            return;
-        };
-        self.tables.enter(m, n, res, state);
-        self.wards.take_report(res, n);
-        self.call_unless(m, res);
-    }
-
-    fn take_report(&mut self, m: NodeId, n: NodeId, states: &[Option<Local>; 21]) {
-        for (res, state) in states.iter().enumerate() {
-            self.take_state(m, n, res, *state);
+    fn take_state(&mut self, m: NodeId, n: NodeId, res: usize, state: Option<Local>)
+        requires master { m < 16 }
+        requires node { n < 16 }
+        requires res { res < 21 }
+        requires room { 16 ≤ self.old.links.room }
+        ensures wire { wire_of self.new ≡ reported_one (wire_of self.old) n m res state }
+        ensures room { self.old.links.room ≤ self.new.links.room + 16 }
+    {
+        if let Some(state) = state {
+            self.tables.enter(m, n, res, state);
+            self.wards.take_report(res, n);
+            self.call_unless(m, res);
         }
     }
 
-    fn take_packet(&mut self, from: NodeId, to: NodeId, packet: Packet) {
+    fn take_report(&mut self, m: NodeId, n: NodeId, states: &[Option<Local>; 21])
+        requires master { m < 16 }
+        requires node { n < 16 }
+        requires room { 336 ≤ self.old.links.room }
+        ensures { wire_of self.new ≡ reported (wire_of self.old) n m states.now 21 }
+    {
+        for res in 0..21 {
+            self.take_state(m, n, res, states[res]);
+        }
+    }
+
+    fn take_packet(&mut self, from: NodeId, to: NodeId, packet: Packet)
+        requires from { from < 16 }
+        requires to { to < 16 }
+        requires range { IsOfResource packet }
+        requires room { most_calls packet ≤ self.old.links.room }
+        ensures { wire_of self.new ≡ received (wire_of self.old) from to (Some packet) }
+    {
         match packet {
             Packet::Ask(res, mode) => {
                 self.tables.ask(to, from, res, mode);
@@ -224,9 +270,7 @@ impl Wire {
                 self.wards.freshen(res, written);
                 self.call_unless(to, res);
             }
-            Packet::Granted(res, granted) => {
-                self.locals.set(to, res, Local::Held(granted.mode));
-            }
+            Packet::Granted(res, granted) => self.locals.set(to, res, Local::Held(granted.mode)),
             Packet::Called(_, _) => {}
             Packet::Report(states) => self.take_report(to, from, &states),
         }
@@ -328,7 +372,10 @@ impl Wire {
     }
 
     // Each live node reports to the new master.
-    fn report_all(&mut self, dead: NodeId, m: NodeId) {
+    fn report_all(&mut self, dead: NodeId, m: NodeId)
+        requires { 16 ≤ self.old.links.room }
+        ensures { wire_of self.new ≡ reports_below (wire_of self.old) dead m 16 }
+    {
         for n in 0..16 {
             if self.live[n as usize] {
                 let states = self.states(dead, n);
@@ -338,7 +385,12 @@ impl Wire {
     }
 
     // The new master takes over.
-    fn take_over(&mut self, dead: NodeId, m: NodeId) {
+    fn take_over(&mut self, dead: NodeId, m: NodeId)
+        requires dead { dead < 16 }
+        requires master { m < 16 }
+        requires room { 16 ≤ self.old.links.room }
+        ensures { wire_of self.new ≡ taken_over (wire_of self.old) dead (Some m) }
+    {
         self.report_all(dead, m);
         self.wards.take_over(dead, m, &self.live);
     }
@@ -375,7 +427,9 @@ impl Wire {
 }
 
 // How many Calleds may follow a packet: one to each node, for each resource of which it speaks.
-fn most_calls(packet: &Packet) -> usize {
+fn most_calls(packet: &Packet) -> usize
+    ensures { result ≡ most_calls packet.now }
+{
     match packet {
         Packet::Report(_) => 336,
         _ => 16,

@@ -1,0 +1,1 @@
+-- The whole state, where a call changes several parts of it.
