@@ -12,7 +12,7 @@ use Rattle.lock_wire.specs.declared.packet.Packet.{Packet}
 
 -- one more
 
-pub link-push : (posts : List Post) (p : Post) (a b : ℕ) → link_of (posts ++ p ∷ []) a b ≡ (if (a == p.from) && (b == p.to) then link_of posts a b ++ p.packet ∷ [] else link_of posts a b)
+pub link-push : (posts : List Post) (p : Post) (a b : ℕ) → link_of (posts ++ p ∷ []) a b ≡ (if (b == p.to) && (a == p.from) then link_of posts a b ++ p.packet ∷ [] else link_of posts a b)
 link-push [] p a b = grind (arith, nat_tests)
 link-push (x ∷ posts) p a b = grind (arith, link-push posts p a b)
 
@@ -60,10 +60,10 @@ first-packet (x ∷ posts) a b (suc i) d lt none on =
     let o : is_on a b x ≡ false = off x (take i posts) a b none in
     rw o (first-packet posts a b i d (omega (arith, lt)) (then_off x (take i posts) a b none) on)
 
-others : (x : Post) (a b m s : ℕ) → is_on a b x ≡ true → ((m == a) && (s == b)) ≡ false → is_on m s x ≡ false
+others : (x : Post) (a b m s : ℕ) → is_on a b x ≡ true → ((s == b) && (m == a)) ≡ false → is_on m s x ≡ false
 others x a b m s on ne = grind (arith, nat_tests)
 
-pub other-packets : (posts : List Post) (a b i : ℕ) (d : Post) (m s : ℕ) → i < length posts → is_on a b (get_or posts i d) ≡ true → ((m == a) && (s == b)) ≡ false → link_of (remove posts i) m s ≡ link_of posts m s
+pub other-packets : (posts : List Post) (a b i : ℕ) (d : Post) (m s : ℕ) → i < length posts → is_on a b (get_or posts i d) ≡ true → ((s == b) && (m == a)) ≡ false → link_of (remove posts i) m s ≡ link_of posts m s
 other-packets [] a b i d m s lt on ne = absurd (omega (arith, lt))
 other-packets (x ∷ posts) a b zero d m s lt on ne = let o : is_on m s x ≡ false = others x a b m s on ne in rw o refl
 other-packets (x ∷ posts) a b (suc i) d m s lt on ne = ap (λ l. if is_on m s x then x.packet ∷ l else l) (other-packets posts a b i d m s (omega (arith, lt)) on ne)
@@ -80,13 +80,13 @@ here_or_else : {A : Type 0} (b : Bool) (x y z : A) → (b ≡ true → x ≡ y) 
 here_or_else true x y z p q = p refl
 here_or_else false x y z p q = q refl
 
-both_same : (m s a b : ℕ) → ((m == a) && (s == b)) ≡ true → (m ≡ a) × (s ≡ b)
+both_same : (m s a b : ℕ) → ((s == b) && (m == a)) ≡ true → (m ≡ a) × (s ≡ b)
 both_same m s a b e = (grind (arith, nat_tests), grind (arith, nat_tests))
 
 pub link-remove : (posts : List Post) (a b i : ℕ) (d : Post) → i < length posts → link_of (take i posts) a b ≡ [] → is_on a b (get_or posts i d) ≡ true → link_of (remove posts i) ≡ with_cell (link_of posts) a b (rest (link_of posts a b))
 link-remove posts a b i d lt none on =
     fun_ext (λ m. fun_ext (λ s.
-        here_or_else ((m == a) && (s == b)) _ _ _
+        here_or_else ((s == b) && (m == a)) _ _ _
         (λ t. let same = both_same m s a b t in ap (λ k. link_of (remove posts i) k s) same.0 ∙ ap (link_of (remove posts i) a) same.1 ∙ ap rest (sym (first-packet posts a b i d lt none on)))
         (λ f. other-packets posts a b i d m s lt on f)))
 
@@ -100,10 +100,10 @@ pub taken_off : (posts : List Post) (a b i : ℕ) → IsFirstOn posts a b i → 
 taken_off [] a b i f = absurd (omega (arith, f.below))
 taken_off (x ∷ posts) a b i f = link-remove (x ∷ posts) a b i x f.below f.none_before (f.on x)
 
-sent_at : (f : ℕ → ℕ → List Packet) (b c : Bool) (m s a d : ℕ) (p : Packet) → (b ≡ true → m ≡ a) → (c ≡ true → s ≡ d) → (if b && c then f m s ++ p ∷ [] else f m s) ≡ (if b && c then f a d ++ p ∷ [] else f m s)
+sent_at : (f : ℕ → ℕ → List Packet) (b c : Bool) (m s a d : ℕ) (p : Packet) → (b ≡ true → m ≡ a) → (c ≡ true → s ≡ d) → (if c && b then f m s ++ p ∷ [] else f m s) ≡ (if c && b then f a d ++ p ∷ [] else f m s)
 sent_at f true true m s a d p e g = ap (λ k. f k s ++ p ∷ []) (e refl) ∙ ap (λ k. f a k ++ p ∷ []) (g refl)
-sent_at f true false m s a d p e g = refl
-sent_at f false c m s a d p e g = refl
+sent_at f false true m s a d p e g = refl
+sent_at f b false m s a d p e g = refl
 
 same : (m a : ℕ) → (m == a) ≡ true → m ≡ a
 same m a t = grind (arith, nat_tests)

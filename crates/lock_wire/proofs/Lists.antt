@@ -28,9 +28,11 @@ if_ap f false x y = refl
 pub at-set : {A B : Type 0} (f : A → B) (xs : List A) (i : ℕ) (v d : A) → i < length xs → (λ r. f (get_or (set xs i v) r d)) ≡ with_at (λ r. f (get_or xs r d)) i (f v)
 at-set f xs i v d lt = fun_ext (λ r. ap f (get-set xs i r v d lt) ∙ if_ap f (r == i) v (get_or xs r d))
 
-in_row : {B : Type 0} (b : Bool) (c : Bool) (v x y z : B) → x ≡ (if c then v else y) → (b ≡ true → z ≡ y) → (if b then x else z) ≡ (if b && c then v else z)
-in_row true c v x y z e same = e ∙ ap (λ q. if c then v else q) (sym (same refl))
-in_row false c v x y z e same = refl
+in_row : {B : Type 0} (b : Bool) (c : Bool) (v x y z : B) → x ≡ (if c then v else y) → (b ≡ true → z ≡ y) → (if b then x else z) ≡ (if c && b then v else z)
+in_row true true v x y z e same = e
+in_row true false v x y z e same = e ∙ sym (same refl)
+in_row false true v x y z e same = refl
+in_row false false v x y z e same = refl
 
 same_at : {A : Type 0} (n i : ℕ) (f : ℕ → A) → (n == i) ≡ true → f n ≡ f i
 same_at n i f e = let same : n ≡ i = grind (arith, nat_tests) in ap f same

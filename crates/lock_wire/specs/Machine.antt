@@ -46,7 +46,7 @@ pub record Wire : Type 0 where
 
 -- the value of f at two numbers is v
 abbrev pub with_cell : {A : Type 0} → (ℕ → ℕ → A) → ℕ → ℕ → A → ℕ → ℕ → A
-with_cell f n r v m s = if (m == n) && (s == r) then v else f m s
+with_cell f n r v m s = if (s == r) && (m == n) then v else f m s
 
 -- no such resource: no node is 16
 abbrev pub no_ward : Ward

@@ -3,7 +3,7 @@ ghost use Rattle.std.specs.Option.{option_map};
 ghost use Rattle.std.specs.Result.{result_err};
 ghost use Rattle.lock_wire.specs.Locals as locals;
 ghost use Rattle.lock_wire.specs.Packets.{IsOfResource, most_calls, first, kind_of};
-ghost use Rattle.lock_wire.specs.Machine.{opened, no_node, node_refusal, ask_refusal_at, convert_refusal_at, release_refusal_at, deliver_refusal, serve_refusal, IsAnswered, first_awaited, with_local, asked_of, converted_of, answer_from, released_of, calls_out, then_calls, taken_report, reported_one, reported, received, named, delivered, serve_answer, served, heir, report_of, without_node, states_below, taken_over, died_of, holds_of, written};
+ghost use Rattle.lock_wire.specs.Machine.{opened, no_node, node_refusal, ask_refusal_at, convert_refusal_at, release_refusal_at, deliver_refusal, serve_refusal, IsAnswered, first_awaited, is_awaited, with_local, asked_of, converted_of, answer_from, released_of, calls_out, then_calls, taken_report, reported_one, reported, received, named, delivered, serve_answer, served, heir, report_of, without_node, states_below, taken_over, died_of, holds_of, written};
 ghost use Rattle.lock_wire.specs.Parts.{wire_of, calls_one, reports_below};
 
 use crate::links::Links;
@@ -152,13 +152,29 @@ impl Wire {
         Ok(())
     }
 
+    fn is_live(&self, n: NodeId) -> bool
+        requires { n < 16 }
+        ensures { result ≡ (wire_of self.now).live n }
+    {
+        self.live[n as usize]
+    }
+
+    // Whether the node lives, and its report on the resource isn't taken.
+    fn is_awaited(&self, res: usize, n: NodeId) -> bool
+        requires res { res < 21 }
+        requires node { n < 16 }
+        ensures { result ≡ is_awaited (wire_of self.now) res n }
+    {
+        self.is_live(n) && self.wards.awaits(res, n)
+    }
+
     // The least live node whose report on the resource isn't taken.
     fn first_awaited(&self, res: usize) -> Option<NodeId>
         requires { res < 21 }
         ensures { result ≡ first_awaited (wire_of self.now) res }
     {
         for n in 0..16 {
-            if self.live[n as usize] && self.wards.awaits(res, n) {
+            if self.is_awaited(res, n) {
                 return Some(n);
             }
         }
@@ -338,7 +354,7 @@ impl Wire {
         ensures range { IfSome result (λ n. n < 16) }
     {
         for n in 0..16 {
-            if self.live[n as usize] {
+            if self.is_live(n) {
                 return Some(n);
             }
         }
@@ -377,7 +393,7 @@ impl Wire {
         ensures { wire_of self.new ≡ reports_below (wire_of self.old) dead m 16 }
     {
         for n in 0..16 {
-            if self.live[n as usize] {
+            if self.is_live(n) {
                 let states = self.states(dead, n);
                 self.links.send(n, m, Packet::Report(states));
             }

@@ -1,0 +1,6 @@
+pub mod ViewLaws
+pub mod TableLaws
+pub mod Steps
+pub mod Links
+pub mod Kept
+pub mod Wires
