@@ -4,3 +4,4 @@ pub mod Steps
 pub mod Links
 pub mod Kept
 pub mod Wires
+pub mod RunsKept

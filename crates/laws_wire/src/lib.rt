@@ -1,2 +1,6 @@
-//! x
+//! Theorems on a lock space spread over nodes, over every list of its calls.
 #![tactic(auto)]
+
+mod laws;
+
+pub use laws::wires_are_sound;
