@@ -12,7 +12,7 @@ use Rattle.lock_wire.specs.declared.local.Local.{Local}
 use Rattle.lock_wire.specs.declared.local.Local.TheVariants.{Free, Asking, Held, Converting}
 use Rattle.lock_wire.specs.declared.packet.Packet.TheVariants as packets
 use Rattle.laws_wire.specs.Runs.{Call, Asks, Converts, Releases, Delivers, Serves, Dies, IsOfResource, refusal, effect, IsAccepted, AreAccepted, wire_after}
-use Rattle.laws_wire.specs.Views.{Asked, Converted, Released, Is, heard, proper, covers, reckoned}
+use Rattle.laws_wire.specs.Views.{Asked, Converted, Released, Is, heard, proper, covers, reckoned, words}
 use Rattle.laws_wire.specs.Invariants.{Kept, Inv}
 use Rattle.laws_wire.specs.Sound.{LocksAgree, TablesCover, WireSound}
 use Rattle.laws_wire.proofs.ViewLaws.{fits_covers, kept_again, kept_twice}
@@ -84,7 +84,7 @@ inv_agrees w i r n m lt ne ln lm =
 pub inv_covers : (w : Wire) → Inv w → TablesCover w
 inv_covers w i r n lt ln none =
     let k = i.kept r lt in
-    ap (λ b. covers (reckoned b (lock_at w r) _ n) (mode_held (w.local n r))) (sym none) ∙ fits_covers ((w.ward r).awaited n) (lock_at w r) _ _ n (w.local n r) (k.fitting.fits n ln)
+    ap (λ b. covers (reckoned b (lock_at w r) (words r (w.link n (master_of w r))) n) (mode_held (w.local n r))) (sym none) ∙ fits_covers ((w.ward r).awaited n) (lock_at w r) _ _ n (w.local n r) (k.fitting.fits n ln)
 
 pub wires_are_sound : (nodes : ℕ) (past : List Call) → AreAccepted nodes past → WireSound (wire_after nodes past)
 wires_are_sound nodes past ok = let i = runs_keep nodes past ok in record { agree = inv_agrees _ i; covered = inv_covers _ i }

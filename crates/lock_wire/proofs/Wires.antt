@@ -1,16 +1,34 @@
 -- The whole state, where a call changes several parts of it.
-use Rattle.std.proofs.Common.{◌≡◌, ℕ, zero, suc, ◌<◌, ◌≤◌, ◌+◌, List, [], ◌∷◌, ◌++◌, Bool, true, false, not, ◌==◌, nat_lt, ◌&&◌, Option, Some, None, refl, sym, ap, ◌∙◌, arith, if◌then◌else◌}
+use Rattle.std.proofs.Common.{◌≡◌, ℕ, zero, suc, ◌<◌, ◌≤◌, ◌+◌, List, [], ◌∷◌, ◌++◌, Bool, true, false, not, ◌==◌, nat_lt, ◌&&◌, ◌||◌, Option, Some, None, refl, sym, ap, ◌∙◌, subst, arith, if◌then◌else◌}
 use Rattle.std.proofs.lemmas.Bool.Decides.{nat_tests}
 use Rattle.std.proofs.Math.Path.{fun_ext}
 use Rattle.dlm_modes.specs.Points.{with_at}
-use Rattle.lock_wire.specs.Machine.{Wire, Ward, with_cell, with_local, with_table, with_ward, sent, named, caller_of, new_caller, last_caller, calls_to, calls_out, first_awaited, calls_unless}
-use Rattle.lock_wire.specs.Parts.{Parts, Links, wire_of, locals_of, links_of, wards_of, tables_of, calls_one, calls_below}
+use Rattle.dlm_space.specs.Locks.{Lock, new_locks, all_died, caller}
+use Rattle.dlm_space.specs.Parts.{Part}
+use Rattle.lock_wire.specs.Machine.{Wire, Ward, with_cell, with_local, with_ward, sent, named, caller_of, new_caller, last_caller, calls_to, calls_out, without_node, opened, first_ward}
+use Rattle.lock_wire.specs.Parts.{Parts, Links, wire_of, locals_of, links_of, wards_of, tables_of, live_of, calls_one, calls_below}
 use Rattle.lock_wire.specs.declared.local.Local.{Local}
+use Rattle.lock_wire.specs.declared.local.Local.TheVariants.{Free}
+use Rattle.lock_wire.specs.declared.ward.Ward.{Ward as WardPart}
 use Rattle.lock_wire.specs.declared.packet.Packet.{Packet}
 
 -- a local state is set, and a packet sent
-pub said-is : (p : Parts) (locals : List (List Local)) (links : Links) (n r m : ℕ) (l : Local) (packet : Packet) → locals_of locals ≡ with_cell (locals_of p.locals) n r l → links_of links ≡ with_cell (links_of p.links) n m (links_of p.links n m ++ packet ∷ []) → wire_of (record p { locals = locals; links = links }) ≡ sent (with_local (wire_of p) n r l) n m packet
-said-is p locals links n r m l packet e f = λ i. record (wire_of p) { local = e i; link = f i }
+pub said-is : (p : Parts) (locals : List (List Local)) (links : Links) (n r m : ℕ) (l : Local) (packet : Packet) → m ≡ (wards_of p.wards r).master → locals_of locals ≡ with_cell (locals_of p.locals) n r l → links_of links ≡ with_cell (links_of p.links) n m (links_of p.links n m ++ packet ∷ []) → wire_of (record p { locals = locals; links = links }) ≡ sent (with_local (wire_of p) n r l) n (wards_of p.wards r).master packet
+said-is p locals links n r m l packet at e f =
+    let g : links_of links ≡ with_cell (links_of p.links) n (wards_of p.wards r).master (links_of p.links n (wards_of p.wards r).master ++ packet ∷ []) = subst (λ k. links_of links ≡ with_cell (links_of p.links) n k (links_of p.links n k ++ packet ∷ [])) at f in
+    λ i. record (wire_of p) { local = e i; link = g i }
+
+pub entered-is : (p : Parts) (tables : List (List Part)) (wards : List WardPart) (table : ℕ → ℕ → Lock) (ward : ℕ → Ward) → tables_of tables ≡ table → wards_of wards ≡ ward → wire_of (record p { tables = tables; wards = wards }) ≡ record (wire_of p) { table = table; ward = ward }
+entered-is p tables wards table ward e f = λ i. record (wire_of p) { table = e i; ward = f i }
+
+pub granting-is : (p : Parts) (tables : List (List Part)) (wards : List WardPart) (links : Links) (table : ℕ → ℕ → Lock) (ward : ℕ → Ward) (link : ℕ → ℕ → List Packet) → tables_of tables ≡ table → wards_of wards ≡ ward → links_of links ≡ link → wire_of (record p { tables = tables; wards = wards; links = links }) ≡ record (wire_of p) { table = table; ward = ward; link = link }
+granting-is p tables wards links table ward link e f g = λ i. record (wire_of p) { table = e i; ward = f i; link = g i }
+
+pub without-is : (p : Parts) (live : List Bool) (locals : List (List Local)) (links : Links) (tables : List (List Part)) (n : ℕ) → live_of live ≡ with_at (live_of p.live) n false → locals_of locals ≡ (λ m r. if m == n then Free else locals_of p.locals m r) → links_of links ≡ (λ a b. if (a == n) || (b == n) then [] else links_of p.links a b) → tables_of tables ≡ (λ m. all_died (tables_of p.tables m) n) → wire_of (record p { live = live; locals = locals; links = links; tables = tables }) ≡ without_node (wire_of p) n
+without-is p live locals links tables n e f g h = λ i. record (wire_of p) { live = e i; local = f i; link = g i; table = h i }
+
+pub opened-is : (p : Parts) (nodes : ℕ) → p.nodes ≡ nodes → live_of p.live ≡ (λ n. nat_lt n nodes) → locals_of p.locals ≡ (λ n r. Free) → links_of p.links ≡ (λ a b. []) → tables_of p.tables ≡ (λ m. new_locks) → wards_of p.wards ≡ first_ward nodes → wire_of p ≡ opened nodes
+opened-is p nodes a b c d e f = λ i. record { nodes = a i; live = b i; local = c i; link = d i; table = e i; ward = f i }
 
 nothing_more : {A : Type 0} (xs : List A) → xs ++ [] ≡ xs
 nothing_more [] = refl
@@ -39,3 +57,45 @@ names_nobody w m r n e =
     let called : with_at (w.ward r).called n (last_caller (named w m r n) ((w.ward r).called n)) ≡ (w.ward r).called = same_point (w.ward r).called n _ (ap (λ o. last_caller o ((w.ward r).called n)) e) in
     let wards : with_at w.ward r (record (w.ward r) { called = with_at (w.ward r).called n (last_caller (named w m r n) ((w.ward r).called n)) }) ≡ w.ward = ap (λ c. with_at w.ward r (record (w.ward r) { called = c })) called ∙ same_point w.ward r (w.ward r) refl in
     λ i. record w { ward = wards i; link = links i }
+
+-- The callbacks, node by node.
+
+below_none : (w : Wire) (m r : ℕ) → calls_below w m r 0 ≡ w
+below_none w m r =
+    let links : (calls_below w m r 0).link ≡ w.link = fun_ext (λ a. fun_ext (λ b. ap (λ t. if t then w.link a b ++ calls_to r (named w m r b) else w.link a b) (none (a == m) b))) in
+    let wards : with_at w.ward r (record (w.ward r) { called = λ n. if nat_lt n 0 then last_caller (named w m r n) ((w.ward r).called n) else (w.ward r).called n }) ≡ w.ward = ap (λ c. with_at w.ward r (record (w.ward r) { called = c })) (fun_ext (λ n. ap (λ t. if t then last_caller (named w m r n) ((w.ward r).called n) else (w.ward r).called n) (never n))) ∙ same_point w.ward r (w.ward r) refl in
+    λ i. record w { ward = wards i; link = links i }
+  where
+    never : (n : ℕ) → nat_lt n 0 ≡ false
+    never n = grind (arith, nat_tests)
+    none : (t : Bool) (b : ℕ) → (t && nat_lt b 0) ≡ false
+    none true b = never b
+    none false b = refl
+
+pub below_start : (w : Wire) (m r : ℕ) → w ≡ calls_below w m r 0
+below_start w m r = sym (below_none w m r)
+
+nobody_calls : (lock : Lock) (n : ℕ) → 16 ≤ n → caller_of lock n ≡ None
+nobody_calls lock n le = let e : nat_lt n 16 ≡ false = grind (arith, nat_tests) in ap (λ t. if t then caller lock n else None) e
+
+names_none : (o last : Option ℕ) → o ≡ None → new_caller o last ≡ None
+names_none o last e = ap (λ x. new_caller x last) e
+
+pub below_end : (w : Wire) (m r : ℕ) → calls_below w m r 16 ≡ calls_out w m r
+below_end w m r =
+    let links : (calls_below w m r 16).link ≡ (calls_out w m r).link = fun_ext (λ a. fun_ext (λ b. in_range (a == m) (nat_lt b 16) (w.link a b) (calls_to r (named w m r b)) (λ f. ap (calls_to r) (out b f)))) in
+    let called : (λ n. if nat_lt n 16 then last_caller (named w m r n) ((w.ward r).called n) else (w.ward r).called n) ≡ (λ n. last_caller (named w m r n) ((w.ward r).called n)) = fun_ext (λ n. all_called (nat_lt n 16) (named w m r n) ((w.ward r).called n) (out n)) in
+    λ i. record w { ward = with_at w.ward r (record (w.ward r) { called = called i }); link = links i }
+  where
+    out : (n : ℕ) → nat_lt n 16 ≡ false → named w m r n ≡ None
+    out n f = names_none _ _ (nobody_calls (w.table m r) n (past n f))
+      where
+        past : (n : ℕ) → nat_lt n 16 ≡ false → 16 ≤ n
+        past n f = grind (arith, nat_tests)
+    in_range : (a b : Bool) (l more : List Packet) → (b ≡ false → more ≡ []) → (if a && b then l ++ more else l) ≡ (if a then l ++ more else l)
+    in_range true true l more f = refl
+    in_range true false l more f = sym (ap (λ q. l ++ q) (f refl) ∙ nothing_more l)
+    in_range false b l more f = refl
+    all_called : (b : Bool) (o last : Option ℕ) → (b ≡ false → o ≡ None) → (if b then last_caller o last else last) ≡ last_caller o last
+    all_called true o last f = refl
+    all_called false o last f = sym (ap (λ x. last_caller x last) (f refl))

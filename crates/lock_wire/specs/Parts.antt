@@ -1,14 +1,16 @@
 -- What a spread lock space keeps, as plain data, and the machine's state for which it stands.
 use Rattle.std.specs.Prelude.{◌≡◌, ℕ, ◌==◌, ◌&&◌, nat_lt, ◌++◌, ◌∷◌, if◌then◌else◌, ◌<◌, ◌≤◌, length, take, slice_index_or, Bool, true, false, List, [], Option, None}
 use Rattle.dlm_modes.specs.Points.{with_at}
-use Rattle.dlm_space.specs.Locks.{Lock}
+use Rattle.dlm_space.specs.Locks.{Lock, granted}
+use Rattle.dlm_space.specs.declared.answers.Granted.{Granted}
 use Rattle.dlm_space.specs.Parts.{Part, locks_of}
-use Rattle.lock_wire.specs.Machine.{Ward, Wire, no_ward, with_cell, with_ward, named, last_caller, calls_to, report_of}
+use Rattle.lock_wire.specs.Machine.{Ward, Wire, no_ward, with_cell, with_ward, with_table, sent, named, last_caller, calls_to, report_of}
 use Rattle.lock_wire.specs.Packets.{is_on, link_of}
 use Rattle.lock_wire.specs.declared.links.Post.{Post}
 use Rattle.lock_wire.specs.declared.local.Local.{Local}
 use Rattle.lock_wire.specs.declared.local.Local.TheVariants.{Free}
 use Rattle.lock_wire.specs.declared.packet.Packet.{Packet}
+use Rattle.lock_wire.specs.declared.packet.Packet.TheVariants as packets
 use Rattle.lock_wire.specs.declared.ward.Ward.{Ward as WardPart}
 
 -- the packets in the order of their sending, and the room for more
@@ -88,3 +90,7 @@ abbrev pub reports_below : Wire → ℕ → ℕ → ℕ → Wire
 reports_below w d m k = record w {
   link = λ a b. if (b == m) && (w.live a && nat_lt a k) then w.link a b ++ report_of w d a ∷ [] else w.link a b;
 }
+
+-- the head was served, and its node told
+abbrev pub granting : Wire → ℕ → ℕ → Granted → Wire
+granting w m r g = sent (with_table (with_ward w r (record (w.ward r) { called = λ n. None })) m r (granted (w.table m r))) m g.node (packets.Granted r g)

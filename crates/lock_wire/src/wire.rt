@@ -1,10 +1,11 @@
 ghost use Rattle.std.specs.Prelude.{◌≡◌, ◌<◌, ◌≤◌, ◌+◌, ◌++◌, ◌∷◌, [], IfOk, IfSome, IfErr, OnOk, OnErr, Some};
 ghost use Rattle.std.specs.Option.{option_map};
 ghost use Rattle.std.specs.Result.{result_err};
+ghost use Rattle.dlm_space.specs.Locks.{grant_refusal, grant_answer};
 ghost use Rattle.lock_wire.specs.Locals as locals;
-ghost use Rattle.lock_wire.specs.Packets.{IsOfResource, most_calls, first, kind_of};
-ghost use Rattle.lock_wire.specs.Machine.{opened, no_node, node_refusal, ask_refusal_at, convert_refusal_at, release_refusal_at, deliver_refusal, serve_refusal, IsAnswered, first_awaited, is_awaited, with_local, asked_of, converted_of, answer_from, released_of, calls_out, then_calls, taken_report, reported_one, reported, received, named, delivered, serve_answer, served, heir, report_of, without_node, states_below, taken_over, died_of, holds_of, written};
-ghost use Rattle.lock_wire.specs.Parts.{wire_of, calls_one, reports_below};
+ghost use Rattle.lock_wire.specs.Packets.{IsOfResource, most_calls, first, rest, kind_of};
+ghost use Rattle.lock_wire.specs.Machine.{with_cell, master_of, sent, with_table, entered, asking, converts, releases, convert_writes, release_writes, told, opened, no_node, node_refusal, ask_refusal_at, convert_refusal_at, release_refusal_at, deliver_refusal, serve_refusal, IsAnswered, first_awaited, is_awaited, with_local, asked_of, converted_of, answer_from, released_of, calls_out, then_calls, taken_report, reported_one, reported, received, named, delivered, serve_answer, served, heir, report_of, without_node, states_below, taken_over, died_of, holds_of, written};
+ghost use Rattle.lock_wire.specs.Parts.{wire_of, calls_one, reports_below, granting};
 
 use crate::links::Links;
 use crate::locals::Locals;
@@ -12,7 +13,7 @@ use crate::tables::Tables;
 use crate::ward::Wards;
 use crate::{Local, Packet, Taken, WireEnd};
 use dlm_modes::{Block, Mode, weaker};
-use dlm_space::{Converted, Granted};
+use dlm_space::{Converted, Granted, LockError};
 use mdc_types::{NodeId, Refusal};
 use std::alloc::{AllocError, Global};
 use std::array;
@@ -89,6 +90,19 @@ impl Wire {
         }
     }
 
+    // The node's local state changes, and a packet tells the master.
+    fn say(&mut self, n: NodeId, res: usize, state: Local, packet: Packet)
+        requires node { n < 16 }
+        requires res { res < 21 }
+        requires packet { IsOfResource packet }
+        requires room { 0 < self.old.links.room }
+        ensures { wire_of self.new ≡ sent (with_local (wire_of self.old) n res state) n (master_of (wire_of self.old) res) packet }
+    {
+        self.locals.set(n, res, state);
+        let master = self.wards.master(res);
+        self.links.send(n, master, packet);
+    }
+
     /// The node asks for the mode, by an Ask to the master. `NotFree` where its local state isn't free.
     pub fn ask(&mut self, n: NodeId, res: usize, mode: Mode) -> Result<(), WireEnd>
         requires { res < 21 }
@@ -99,9 +113,7 @@ impl Wire {
         self.known(n)?;
         self.locals.get(n, res).may_ask()?;
         self.room(1)?;
-        self.locals.set(n, res, Local::Asking(mode));
-        let master = self.wards.master(res);
-        self.links.send(n, master, Packet::Ask(res, mode));
+        self.say(n, res, Local::Asking(mode), Packet::Ask(res, mode));
         Ok(())
     }
 
@@ -124,9 +136,7 @@ impl Wire {
         self.known(n)?;
         let from = self.locals.get(n, res).may_convert()?;
         self.room(1)?;
-        self.locals.set(n, res, Local::converting(from, mode));
-        let master = self.wards.master(res);
-        self.links.send(n, master, Packet::Convert(res, mode, value));
+        self.say(n, res, Local::converting(from, mode), Packet::Convert(res, mode, value));
         Ok(converting_answer(from, mode))
     }
 
@@ -146,9 +156,7 @@ impl Wire {
         self.known(n)?;
         self.locals.get(n, res).may_release()?;
         self.room(1)?;
-        self.locals.set(n, res, Local::Free);
-        let master = self.wards.master(res);
-        self.links.send(n, master, Packet::Release(res, value));
+        self.say(n, res, Local::Free, Packet::Release(res, value));
         Ok(())
     }
 
@@ -237,6 +245,17 @@ impl Wire {
         }
     }
 
+    fn enter(&mut self, m: NodeId, n: NodeId, res: usize, state: Local)
+        requires master { m < 16 }
+        requires node { n < 16 }
+        requires res { res < 21 }
+        ensures wire { wire_of self.new ≡ taken_report (with_table (wire_of self.old) m res (entered ((wire_of self.old).table m res) n state)) res n }
+        ensures room { self.new.links ≡ self.old.links }
+    {
+        self.tables.enter(m, n, res, state);
+        self.wards.take_report(res, n);
+    }
+
     // The master enters what the node reports of its lock on one resource.
     fn take_state(&mut self, m: NodeId, n: NodeId, res: usize, state: Option<Local>)
         requires master { m < 16 }
@@ -247,8 +266,7 @@ impl Wire {
         ensures room { self.old.links.room ≤ self.new.links.room + 16 }
     {
         if let Some(state) = state {
-            self.tables.enter(m, n, res, state);
-            self.wards.take_report(res, n);
+            self.enter(m, n, res, state);
             self.call_unless(m, res);
         }
     }
@@ -264,6 +282,57 @@ impl Wire {
         }
     }
 
+    // The calls of the master on its table.
+
+    fn hear_ask(&mut self, m: NodeId, n: NodeId, res: usize, mode: Mode)
+        requires master { m < 16 }
+        requires node { n < 16 }
+        requires res { res < 21 }
+        ensures wire { wire_of self.new ≡ with_table (wire_of self.old) m res (asking ((wire_of self.old).table m res) n mode) }
+        ensures room { self.new.links ≡ self.old.links }
+    {
+        self.tables.ask(m, n, res, mode);
+    }
+
+    fn hear_convert(
+        &mut self,
+        m: NodeId,
+        n: NodeId,
+        res: usize,
+        mode: Mode,
+        value: Option<Block>,
+    )
+        requires master { m < 16 }
+        requires node { n < 16 }
+        requires res { res < 21 }
+        ensures wire { let old = wire_of self.old in let lock = old.table m res in wire_of self.new
+            ≡ with_table (written old res (convert_writes lock n mode value)) m res (converts lock n mode value) }
+        ensures room { self.new.links ≡ self.old.links }
+    {
+        let writes = self.tables.convert(m, n, res, mode, value);
+        self.wards.freshen(res, writes);
+    }
+
+    fn hear_release(&mut self, m: NodeId, n: NodeId, res: usize, value: Option<Block>)
+        requires master { m < 16 }
+        requires node { n < 16 }
+        requires res { res < 21 }
+        ensures wire { let old = wire_of self.old in let lock = old.table m res in wire_of self.new
+            ≡ with_table (written old res (release_writes lock n value)) m res (releases lock n value) }
+        ensures room { self.new.links ≡ self.old.links }
+    {
+        let writes = self.tables.release(m, n, res, value);
+        self.wards.freshen(res, writes);
+    }
+
+    fn hold(&mut self, n: NodeId, res: usize, mode: Mode)
+        requires node { n < 16 }
+        requires res { res < 21 }
+        ensures { wire_of self.new ≡ with_local (wire_of self.old) n res (Local.Held mode) }
+    {
+        self.locals.set(n, res, Local::Held(mode));
+    }
+
     fn take_packet(&mut self, from: NodeId, to: NodeId, packet: Packet)
         requires from { from < 16 }
         requires to { to < 16 }
@@ -273,23 +342,29 @@ impl Wire {
     {
         match packet {
             Packet::Ask(res, mode) => {
-                self.tables.ask(to, from, res, mode);
+                self.hear_ask(to, from, res, mode);
                 self.call_unless(to, res);
             }
             Packet::Convert(res, mode, value) => {
-                let written = self.tables.convert(to, from, res, mode, value);
-                self.wards.freshen(res, written);
+                self.hear_convert(to, from, res, mode, value);
                 self.call_unless(to, res);
             }
             Packet::Release(res, value) => {
-                let written = self.tables.release(to, from, res, value);
-                self.wards.freshen(res, written);
+                self.hear_release(to, from, res, value);
                 self.call_unless(to, res);
             }
-            Packet::Granted(res, granted) => self.locals.set(to, res, Local::Held(granted.mode)),
+            Packet::Granted(res, granted) => self.hold(to, res, granted.mode),
             Packet::Called(_, _) => {}
             Packet::Report(states) => self.take_report(to, from, &states),
         }
+    }
+
+    // The first packet is off the link.
+    fn take_off(&mut self, from: NodeId, to: NodeId)
+        ensures wire { let old = wire_of self.old in wire_of self.new ≡ record old { link = with_cell old.link from to (rest (old.link from to)) } }
+        ensures room { self.old.links.room ≤ self.new.links.room }
+    {
+        self.links.take(from, to);
     }
 
     /// The second node takes the first packet on the link from the first node, and says its kind. A
@@ -309,9 +384,30 @@ impl Wire {
             return Err(WireEnd::Refused(Refusal::LinkEmpty { from, to }));
         };
         self.room(most_calls(&packet))?;
-        self.links.take(from, to);
+        self.take_off(from, to);
         self.take_packet(from, to, packet);
         Ok(packet.kind())
+    }
+
+    // The master serves the head, tells the node, and forgets whom it named to whom.
+    fn grant(&mut self, m: NodeId, res: usize) -> Result<Granted, LockError>
+        requires master { m < 16 }
+        requires res { res < 21 }
+        requires room { 0 < self.old.links.room }
+        ensures refused { result_err result ≡ grant_refusal ((wire_of self.old).table m res) }
+        ensures answer { IfOk result (λ g. Some g ≡ option_map (told ((wire_of self.old).ward res).stale) (grant_answer ((wire_of self.old).table m res))) }
+        ensures ok { IfOk result (λ g. wire_of self.new ≡ granting (wire_of self.old) m res g) }
+        ensures err { OnErr result (wire_of self.new ≡ wire_of self.old) }
+        ensures room { self.old.links.room ≤ self.new.links.room + 1 }
+    {
+        let granted = self.tables.grant(m, res)?;
+        let told = Granted {
+            valid: granted.valid && !self.wards.is_stale(res),
+            ..granted
+        };
+        self.wards.forget(res);
+        self.links.send(m, told.node, Packet::Granted(res, told));
+        Ok(told)
     }
 
     /// The master of the resource serves the head of its queues, sends a Granted to it, and names the
@@ -334,16 +430,10 @@ impl Wire {
             return Err(WireEnd::Refused(Refusal::Rebuilding(n)));
         }
         self.room(17)?;
-        let granted = match self.tables.grant(m, res) {
-            Ok(granted) => granted,
+        let told = match self.grant(m, res) {
+            Ok(told) => told,
             Err(e) => return Err(WireEnd::Lock(e)),
         };
-        let told = Granted {
-            valid: granted.valid && !self.wards.is_stale(res),
-            ..granted
-        };
-        self.wards.forget(res);
-        self.links.send(m, told.node, Packet::Granted(res, told));
         self.call_out(m, res);
         Ok(told)
     }

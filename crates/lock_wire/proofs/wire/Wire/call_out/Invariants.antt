@@ -4,6 +4,6 @@ use Rattle.lock_wire.proofs.wire.Wire.call_out.Given as goal
 
 abbrev pub invariant-loop-n : goal.invariant-loop-n
 invariant-loop-n l = record {
-  wire : wire_of l.self ≡ calls_below (wire_of l.fn.self.old) l.m l.res l.n;
-  room : l.fn.self.old.links.room ≤ l.self.links.room + l.n;
+  wire : wire_of l.self ≡ calls_below (wire_of l.initial.self) l.m l.res l.n;
+  room : l.initial.self.links.room ≤ l.self.links.room + l.n;
 }
