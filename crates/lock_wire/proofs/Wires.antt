@@ -75,6 +75,70 @@ below_none w m r =
 pub below_start : (w : Wire) (m r : ℕ) → w ≡ calls_below w m r 0
 below_start w m r = sym (below_none w m r)
 
+-- one node more
+one_below : (w : Wire) (m r k : ℕ) → calls_one (calls_below w m r k) m r k ≡ calls_below w m r (k + 1)
+one_below w m r k =
+    let links : (calls_one (calls_below w m r k) m r k).link ≡ (calls_below w m r (k + 1)).link = fun_ext (λ a. fun_ext (λ b. link_at a b)) in
+    let wards : (calls_one (calls_below w m r k) m r k).ward ≡ (calls_below w m r (k + 1)).ward = fun_ext (λ s. ward_at s) in
+    λ i. record w { ward = wards i; link = links i }
+  where
+    v : Wire
+    v = calls_below w m r k
+    mine : Ward
+    mine = record (w.ward r) { called = λ n. if nat_lt n k then last_caller (named w m r n) ((w.ward r).called n) else (w.ward r).called n }
+    self : (n : ℕ) → (n == n) ≡ true
+    self n = grind (arith, nat_tests)
+    ward_is : v.ward r ≡ mine
+    ward_is = ap (λ t. if t then mine else w.ward r) (self r)
+    not_yet : nat_lt k k ≡ false
+    not_yet = grind (arith, nat_tests)
+    called_is : (v.ward r).called k ≡ (w.ward r).called k
+    called_is = ap (λ (u : Ward). u.called k) ward_is ∙ ap (λ t. if t then last_caller (named w m r k) ((w.ward r).called k) else (w.ward r).called k) not_yet
+    named_is : named v m r k ≡ named w m r k
+    named_is = ap (λ l. new_caller (caller_of (w.table m r) k) l) called_is
+    link_is : v.link m k ≡ w.link m k
+    link_is = ap (λ t. if (m == m) && t then w.link m k ++ calls_to r (named w m r k) else w.link m k) not_yet ∙ ap (λ t. if t then w.link m k ++ calls_to r (named w m r k) else w.link m k) (last (m == m))
+      where
+        last : (t : Bool) → (t && false) ≡ false
+        last true = refl
+        last false = refl
+    tests : {A : Type 0} (a b : ℕ) (l new : List A) → (if (b == k) && (a == m) then new else (if (a == m) && nat_lt b k then new else l)) ≡ (if (a == m) && nat_lt b (k + 1) then new else l)
+    tests a b l new = grind (arith, nat_tests)
+    own_link : (a b : ℕ) → (if (b == k) && (a == m) then w.link m k ++ calls_to r (named w m r k) else v.link a b) ≡ (if (b == k) && (a == m) then w.link a b ++ calls_to r (named w m r b) else v.link a b)
+    own_link a b = elim ((b == k) && (a == m)) as (λ t. ((b == k) && (a == m)) ≡ t → (if t then w.link m k ++ calls_to r (named w m r k) else v.link a b) ≡ (if t then w.link a b ++ calls_to r (named w m r b) else v.link a b)) [
+      | true ↦ λ t. let e : b ≡ k = grind (arith, nat_tests) in let f : a ≡ m = grind (arith, nat_tests) in ap (λ x. w.link x k ++ calls_to r (named w m r k)) (sym f) ∙ ap (λ x. w.link a x ++ calls_to r (named w m r x)) (sym e)
+      | false ↦ λ t. refl
+    ] refl
+    link_at : (a b : ℕ) → with_cell v.link m k (v.link m k ++ calls_to r (named v m r k)) a b ≡ (calls_below w m r (k + 1)).link a b
+    link_at a b =
+        ap (λ l. with_cell v.link m k (l ++ calls_to r (named v m r k)) a b) link_is
+        ∙ ap (λ o. with_cell v.link m k (w.link m k ++ calls_to r o) a b) named_is
+        ∙ own_link a b
+        ∙ tests a b (w.link a b) (w.link a b ++ calls_to r (named w m r b))
+    next : Ward
+    next = record (w.ward r) { called = λ n. if nat_lt n (k + 1) then last_caller (named w m r n) ((w.ward r).called n) else (w.ward r).called n }
+    called_tests : (n : ℕ) (new old : Option ℕ) → (if n == k then new else (if nat_lt n k then new else old)) ≡ (if nat_lt n (k + 1) then new else old)
+    called_tests n new old = grind (arith, nat_tests)
+    own_called : (n : ℕ) → (if n == k then last_caller (named w m r k) ((w.ward r).called k) else mine.called n) ≡ (if n == k then last_caller (named w m r n) ((w.ward r).called n) else mine.called n)
+    own_called n = elim (n == k) as (λ t. (n == k) ≡ t → (if t then last_caller (named w m r k) ((w.ward r).called k) else mine.called n) ≡ (if t then last_caller (named w m r n) ((w.ward r).called n) else mine.called n)) [
+      | true ↦ λ t. let e : n ≡ k = grind (arith, nat_tests) in ap (λ x. last_caller (named w m r x) ((w.ward r).called x)) (sym e)
+      | false ↦ λ t. refl
+    ] refl
+    next_is : record (v.ward r) { called = with_at (v.ward r).called k (last_caller (named v m r k) ((v.ward r).called k)) } ≡ next
+    next_is =
+        ap (λ (u : Ward). record u { called = with_at u.called k (last_caller (named v m r k) (u.called k)) }) ward_is
+        ∙ ap (λ o. record mine { called = with_at mine.called k (last_caller o (mine.called k)) }) named_is
+        ∙ ap (λ x. record mine { called = with_at mine.called k (last_caller (named w m r k) x) }) (ap (λ t. if t then last_caller (named w m r k) ((w.ward r).called k) else (w.ward r).called k) not_yet)
+        ∙ ap (λ f. record (w.ward r) { called = f }) (fun_ext (λ n. own_called n ∙ called_tests n (last_caller (named w m r n) ((w.ward r).called n)) ((w.ward r).called n)))
+    twice : {A : Type 0} (t : Bool) (x y z : A) → (if t then x else (if t then y else z)) ≡ (if t then x else z)
+    twice true x y z = refl
+    twice false x y z = refl
+    ward_at : (s : ℕ) → with_at v.ward r (record (v.ward r) { called = with_at (v.ward r).called k (last_caller (named v m r k) ((v.ward r).called k)) }) s ≡ with_at w.ward r next s
+    ward_at s = ap (λ u. with_at v.ward r u s) next_is ∙ twice (s == r) next mine (w.ward s)
+
+pub below_next : (w v u : Wire) (m r k : ℕ) → v ≡ calls_below w m r k → u ≡ calls_one v m r k → u ≡ calls_below w m r (k + 1)
+below_next w v u m r k e f = f ∙ ap (λ x. calls_one x m r k) e ∙ one_below w m r k
+
 nobody_calls : (lock : Lock) (n : ℕ) → 16 ≤ n → caller_of lock n ≡ None
 nobody_calls lock n le = let e : nat_lt n 16 ≡ false = grind (arith, nat_tests) in ap (λ t. if t then caller lock n else None) e
 

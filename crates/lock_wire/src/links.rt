@@ -94,7 +94,8 @@ impl Links {
 
     // Takes the first packet off the link, if there is one.
     pub fn take(&mut self, from: NodeId, to: NodeId)
-        ensures { links_of self.new ≡ with_cell (links_of self.old) from to (rest (links_of self.old from to)) }
+        ensures taken { links_of self.new ≡ with_cell (links_of self.old) from to (rest (links_of self.old from to)) }
+        ensures room { self.old.room ≤ self.new.room }
     {
         if let Some(at) = first_at(&self.posts, from, to) {
             let _ = self.posts.remove(at);

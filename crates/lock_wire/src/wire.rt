@@ -1,4 +1,4 @@
-ghost use Rattle.std.specs.Prelude.{◌≡◌, ◌<◌, ◌≤◌, ◌+◌, ◌++◌, ◌∷◌, [], IfOk, IfSome, IfErr, OnOk, OnErr, Some};
+ghost use Rattle.std.specs.Prelude.{◌≡◌, ◌<◌, ◌≤◌, ◌+◌, ◌++◌, ◌∷◌, [], IfOk, IfSome, IfErr, OnOk, OnErr, Some, None, ◌==◌, if◌then◌else◌};
 ghost use Rattle.std.specs.Option.{option_map};
 ghost use Rattle.std.specs.Result.{result_err};
 ghost use Rattle.dlm_space.specs.Locks.{grant_refusal, grant_answer};
@@ -463,18 +463,29 @@ impl Wire {
         self.tables.die(n);
     }
 
+    fn state(&self, dead: NodeId, n: NodeId, res: usize) -> Option<Local>
+        requires node { n < 16 }
+        requires res { res < 21 }
+        ensures { let w = wire_of self.now in result
+            ≡ (if master_of w res == dead then Some (w.local n res) else None) }
+    {
+        if self.wards.master(res) == dead {
+            Some(self.locals.get(n, res))
+        } else {
+            None
+        }
+    }
+
     // What the node reports of the resources of the dead master.
     fn states(&self, dead: NodeId, n: NodeId) -> [Option<Local>; 21]
         requires { n < 16 }
         ensures { result ≡ states_below (wire_of self.now) dead n 21 }
     {
-        array::from_fn(|r| {
-            if self.wards.master(r) == dead {
-                Some(self.locals.get(n, r))
-            } else {
-                None
-            }
-        })
+        let mut states = [None; 21];
+        for res in 0..21 {
+            states[res] = self.state(dead, n, res);
+        }
+        states
     }
 
     // Each live node reports to the new master.
