@@ -62,3 +62,25 @@ same_lists (x ∷ xs) (y ∷ ys) d e h =
     let one : x ≡ y = h 0 (omega arith) in
     let more : xs ≡ ys = same_lists xs ys d (omega (arith, e)) (λ r lt. h (suc r) (omega (arith, lt))) in
     rw (one, more) refl
+
+set-length : {A : Type 0} (xs : List A) (n : ℕ) (v : A) → length (set xs n v) ≡ length xs
+set-length [] n v = refl
+set-length (x ∷ xs) zero v = refl
+set-length (x ∷ xs) (suc n) v = ap suc (set-length xs n v)
+
+pub length-set : {A : Type 0} (xs : List A) (n : ℕ) (v : A) → length (set xs n v) ≡ length xs
+length-set xs n v = set-length xs n v
+
+next_read : {A : Type 0} (s k : ℕ) (x f g got : A) → s < k + 1 → got ≡ (if s == k then x else g) → (s < k → g ≡ f) → (s ≡ k → x ≡ f) → got ≡ f
+next_read s k x f g got lt e h i = grind (arith, nat_tests)
+
+-- one more element is what it is to be
+pub set-next : {A : Type 0} (xs : List A) (k : ℕ) (v d : A) (f : ℕ → A) → k < length xs → v ≡ f k → ((s : ℕ) → s < k → get_or xs s d ≡ f s) → (s : ℕ) → s < k + 1 → get_or (set xs k v) s d ≡ f s
+set-next xs k v d f lt e h s below = next_read s k v (f s) (get_or xs s d) (get_or (set xs k v) s d) below (get-set xs k s v d lt) (h s) (λ same. e ∙ ap f (sym same))
+
+flag_read : (s k : ℕ) (g got : Bool) → got ≡ (if s == k then true else g) → g ≡ nat_lt s k → got ≡ nat_lt s (k + 1)
+flag_read s k g got e h = grind (arith, nat_tests)
+
+-- one more flag is set
+pub flag-next : (xs : List Bool) (k : ℕ) → k < length xs → ((s : ℕ) → get_or xs s false ≡ nat_lt s k) → (s : ℕ) → get_or (set xs k true) s false ≡ nat_lt s (k + 1)
+flag-next xs k lt h s = flag_read s k (get_or xs s false) (get_or (set xs k true) s false) (get-set xs k s true false lt) (h s)

@@ -2,11 +2,18 @@
 use Rattle.std.proofs.Common.{◌≡◌, ℕ, zero, suc, ◌<◌, ◌≤◌, ◌+◌, List, [], ◌∷◌, ◌++◌, Bool, true, false, not, ◌==◌, nat_lt, ◌&&◌, ◌||◌, Option, Some, None, refl, sym, ap, ◌∙◌, subst, arith, if◌then◌else◌}
 use Rattle.std.proofs.lemmas.Bool.Decides.{nat_tests}
 use Rattle.std.proofs.Math.Path.{fun_ext}
+use Rattle.std.specs.Prelude.{slice_index_or}
+use Rattle.std.specs.Option.{option_map}
+use Rattle.dlm_modes.specs.Guards.{unless, or_then}
 use Rattle.dlm_modes.specs.Points.{with_at}
-use Rattle.dlm_space.specs.Locks.{Lock, new_locks, all_died, caller}
+use Rattle.mdc_types.specs.declared.refusals.Refusal.TheVariants.{NotUp}
+use Rattle.lock_wire.specs.declared.ends.WireEnd.TheVariants as ends
+use Rattle.dlm_space.specs.Locks.{Lock, new_locks, all_died, caller, grant_refusal, grant_answer}
+use Rattle.dlm_space.specs.declared.answers.Granted.{Granted}
+use Rattle.dlm_space.specs.declared.answers.LockError.{LockError}
 use Rattle.dlm_space.specs.Parts.{Part}
-use Rattle.lock_wire.specs.Machine.{Wire, Ward, with_cell, with_local, with_ward, sent, named, caller_of, new_caller, last_caller, calls_to, calls_out, without_node, opened, first_ward}
-use Rattle.lock_wire.specs.Parts.{Parts, Links, wire_of, locals_of, links_of, wards_of, tables_of, live_of, calls_one, calls_below}
+use Rattle.lock_wire.specs.Machine.{Wire, Ward, with_cell, with_local, with_ward, sent, named, caller_of, new_caller, last_caller, calls_to, calls_out, without_node, opened, first_ward, reported, reported_one, master_of, lock_at, first_awaited, rebuilding, serve_refusal, serve_answer, served, served_to, told}
+use Rattle.lock_wire.specs.Parts.{Parts, Links, wire_of, locals_of, links_of, wards_of, tables_of, live_of, calls_one, calls_below, granting}
 use Rattle.lock_wire.specs.declared.local.Local.{Local}
 use Rattle.lock_wire.specs.declared.local.Local.TheVariants.{Free}
 use Rattle.lock_wire.specs.declared.ward.Ward.{Ward as WardPart}
@@ -163,3 +170,39 @@ below_end w m r =
     all_called : (b : Bool) (o last : Option ℕ) → (b ≡ false → o ≡ None) → (if b then last_caller o last else last) ≡ last_caller o last
     all_called true o last f = refl
     all_called false o last f = sym (ap (λ x. last_caller x last) (f refl))
+
+-- Reports, resource by resource.
+
+pub reported-zero : (w : Wire) (a b : ℕ) (states : List (Option Local)) → reported w a b states 0 ≡ w
+unfolding reported
+reported-zero w a b states = refl
+
+pub reported-suc : (w : Wire) (a b : ℕ) (states : List (Option Local)) (k : ℕ) → reported w a b states (suc k) ≡ reported_one (reported w a b states k) a b k (slice_index_or states k None)
+unfolding reported
+reported-suc w a b states k = refl
+
+pub reported-next : (w v u : Wire) (a b : ℕ) (states : List (Option Local)) (k : ℕ) (o : Option Local) → v ≡ reported w a b states k → u ≡ reported_one v a b k o → o ≡ slice_index_or states k None → u ≡ reported w a b states (k + 1)
+reported-next w v u a b states k o e f is =
+    let next : k + 1 ≡ suc k = omega arith in
+    f ∙ ap (λ x. reported_one x a b k o) e ∙ ap (reported_one (reported w a b states k) a b k) is ∙ sym (reported-suc w a b states k) ∙ ap (reported w a b states) (sym next)
+
+-- Serving.
+
+pub serve-refused : (w : Wire) (r m : ℕ) (o : Option LockError) → m ≡ master_of w r → w.live m ≡ true → first_awaited w r ≡ None → grant_refusal (w.table m r) ≡ o → serve_refusal w r ≡ option_map ends.Lock o
+serve-refused w r m o at lives none g =
+    ap (λ b. or_then (unless b (ends.Refused (NotUp (master_of w r)))) (or_then (rebuilding (first_awaited w r)) (option_map ends.Lock (grant_refusal (lock_at w r))))) (ap w.live (sym at) ∙ lives)
+    ∙ ap (λ x. or_then (rebuilding x) (option_map ends.Lock (grant_refusal (lock_at w r)))) none
+    ∙ ap (option_map ends.Lock) (ap (λ k. grant_refusal (w.table k r)) (sym at) ∙ g)
+
+pub served-is : (w v u x : Wire) (r m : ℕ) (g : Granted) → m ≡ master_of w r → v ≡ w → Some g ≡ option_map (told (v.ward r).stale) (grant_answer (v.table m r)) → u ≡ granting v m r g → x ≡ calls_out u m r → x ≡ served w r
+served-is w v u x r m g at same e f h =
+    let answer : Some g ≡ serve_answer w r = e ∙ ap (λ (y : Wire). option_map (told (y.ward r).stale) (grant_answer (y.table m r))) same ∙ ap (λ k. option_map (told (w.ward r).stale) (grant_answer (w.table k r))) at in
+    h ∙ ap (λ y. calls_out y m r) (f ∙ ap (λ y. granting y m r g) same) ∙ ap (λ k. calls_out (granting w k r g) k r) at ∙ ap (served_to w (master_of w r) r) answer
+
+pub answer-is : (w v : Wire) (r m : ℕ) (g : Granted) → m ≡ master_of w r → v ≡ w → Some g ≡ option_map (told (v.ward r).stale) (grant_answer (v.table m r)) → Some g ≡ serve_answer w r
+answer-is w v r m g at same e = e ∙ ap (λ (y : Wire). option_map (told (y.ward r).stale) (grant_answer (y.table m r))) same ∙ ap (λ k. option_map (told (w.ward r).stale) (grant_answer (w.table k r))) at
+
+-- Taking over.
+
+pub wards-is : (p : Parts) (wards : List WardPart) (ward : ℕ → Ward) → wards_of wards ≡ ward → wire_of (record p { wards = wards }) ≡ record (wire_of p) { ward = ward }
+wards-is p wards ward e = λ i. record (wire_of p) { ward = e i }

@@ -16,7 +16,6 @@ use dlm_modes::{Block, Mode, weaker};
 use dlm_space::{Converted, Granted, LockError};
 use mdc_types::{NodeId, Refusal};
 use std::alloc::{AllocError, Global};
-use std::array;
 use std::marker::Model;
 
 /// A lock space spread over up to sixteen nodes: their local states, the links between them, and the
@@ -54,9 +53,13 @@ impl Wire {
         requires most { nodes ≤ 16 }
         ensures { IfOk result (λ w. wire_of w ≡ opened nodes) }
     {
+        let mut live = [false; 16];
+        for n in 0..nodes {
+            live[n as usize] = true;
+        }
         Ok(Wire {
             nodes,
-            live: array::from_fn(|n| n < nodes as usize),
+            live,
             locals: Locals::new(),
             links: Links::new(alloc),
             tables: Tables::new(alloc)?,
@@ -423,7 +426,7 @@ impl Wire {
         ensures err { OnErr result (wire_of self.new ≡ wire_of self.old) }
     {
         let m = self.wards.master(res);
-        if !self.live[m as usize] {
+        if !self.is_live(m) {
             return Err(WireEnd::Refused(Refusal::NotUp(m)));
         }
         if let Some(n) = self.first_awaited(res) {
