@@ -2,7 +2,7 @@
 use Rattle.std.proofs.Common.{◌≡◌, ◌≢◌, ℕ, zero, suc, ◌<◌, ◌+◌, List, [], ◌∷◌, ◌++◌, length, get_or, Bool, true, false, ◌==◌, ◌&&◌, nat_lt, Option, Some, None, refl, sym, ap, ◌∙◌, subst, arith, if◌then◌else◌}
 use Rattle.std.proofs.lemmas.Bool.Decides.{nat_tests}
 use Rattle.std.proofs.Math.Path.{fun_ext}
-use Rattle.lock_wire.specs.Machine.{Wire, with_cell, master_of, states_below, report_of}
+use Rattle.lock_wire.specs.Machine.{Wire, with_cell, master_of, states_below, report_of, heirs_ward, taken_over}
 use Rattle.lock_wire.specs.Parts.{reports_below}
 use Rattle.lock_wire.specs.declared.local.Local.{Local}
 use Rattle.lock_wire.specs.declared.packet.Packet.{Packet}
@@ -85,9 +85,9 @@ skips_next w v d m k e dead = e ∙ (λ i. record w { link = links i })
     links = fun_ext (λ a. fun_ext (λ b. ap (λ t. if t then w.link a b ++ report_of w d a ∷ [] else w.link a b) (same a (b == m) (w.live a) (λ x. ap w.live x ∙ dead))))
 
 -- the next node reports
-pub reports_next : (w v u : Wire) (d m k : ℕ) (states : List (Option Local)) → v ≡ reports_below w d m k → w.live k ≡ true → states ≡ states_below v d k 21 → u ≡ record v { link = with_cell v.link k m (v.link k m ++ packets.Report states ∷ []) } → u ≡ reports_below w d m (k + 1)
-reports_next w v u d m k states e lives is f =
-    f ∙ ap (λ q. record v { link = with_cell v.link k m (v.link k m ++ packets.Report q ∷ []) }) (is ∙ states_same w v d k 21 (ap (λ (x : Wire). x.local) e) (ap (λ (x : Wire). x.ward) e))
+pub reports_next : (w v u : Wire) (d m k : ℕ) → v ≡ reports_below w d m k → w.live k ≡ true → u ≡ record v { link = with_cell v.link k m (v.link k m ++ report_of v d k ∷ []) } → u ≡ reports_below w d m (k + 1)
+reports_next w v u d m k e lives f =
+    f ∙ ap (λ q. record v { link = with_cell v.link k m (v.link k m ++ packets.Report q ∷ []) }) (states_same w v d k 21 (ap (λ (x : Wire). x.local) e) (ap (λ (x : Wire). x.ward) e))
     ∙ ap (λ (x : Wire). record x { link = with_cell x.link k m (x.link k m ++ report_of w d k ∷ []) }) e
     ∙ (λ i. record w { link = links i })
   where
@@ -117,3 +117,8 @@ all_reported w d m past = λ i. record w { link = links i }
     same a b l f = grind (arith, nat_tests, f)
     links : (reports_below w d m 16).link ≡ (λ a b. if (b == m) && w.live a then w.link a b ++ report_of w d a ∷ [] else w.link a b)
     links = fun_ext (λ a. fun_ext (λ b. ap (λ t. if t then w.link a b ++ report_of w d a ∷ [] else w.link a b) (same a (b == m) (w.live a) (past a))))
+
+-- and the new master takes over
+pub over-is : (w v u : Wire) (d m : ℕ) → ((n : ℕ) → 16 < suc n → v.live n ≡ false) → v ≡ reports_below w d m 16 → u ≡ record v { ward = λ r. if master_of v r == d then heirs_ward v.live m else v.ward r } → u ≡ taken_over w d (Some m)
+over-is w v u d m past e f =
+    f ∙ ap (λ (x : Wire). record x { ward = λ r. if master_of x r == d then heirs_ward x.live m else x.ward r }) (e ∙ all_reported w d m (λ n lt. sym (ap (λ (x : Wire). x.live n) e) ∙ past n lt))

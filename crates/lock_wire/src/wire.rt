@@ -491,6 +491,18 @@ impl Wire {
         states
     }
 
+    // The node reports to the new master.
+    fn report(&mut self, dead: NodeId, n: NodeId, m: NodeId)
+        requires node { n < 16 }
+        requires room { 0 < self.old.links.room }
+        ensures wire { let old = wire_of self.old in wire_of self.new
+            ≡ record old { link = with_cell old.link n m (old.link n m ++ report_of old dead n ∷ []) } }
+        ensures room { self.new.links.room + 1 ≡ self.old.links.room }
+    {
+        let states = self.states(dead, n);
+        self.links.send(n, m, Packet::Report(states));
+    }
+
     // Each live node reports to the new master.
     fn report_all(&mut self, dead: NodeId, m: NodeId)
         requires { 16 ≤ self.old.links.room }
@@ -498,8 +510,7 @@ impl Wire {
     {
         for n in 0..16 {
             if self.is_live(n) {
-                let states = self.states(dead, n);
-                self.links.send(n, m, Packet::Report(states));
+                self.report(dead, n, m);
             }
         }
     }
