@@ -5,3 +5,4 @@ pub mod Links
 pub mod Kept
 pub mod Wires
 pub mod RunsKept
+pub mod Tickets

@@ -3,7 +3,7 @@ use Rattle.std.proofs.Common.{◌≡◌, ◌≢◌, ◌⊎◌, inl, inr, ℕ, ze
 use Rattle.std.specs.Prelude.{slice_index_or}
 use Rattle.std.proofs.lemmas.Bool.Decides.{nat_tests}
 use Rattle.dlm_modes.specs.declared.mode.Mode.{Mode}
-use Rattle.lock_wire.specs.Machine.{Wire, with_cell, calls_to, master_of, states_below}
+use Rattle.lock_wire.specs.Machine.{Wire, with_cell, calls_to}
 use Rattle.lock_wire.specs.declared.local.Local.{Local}
 use Rattle.lock_wire.specs.declared.packet.Packet.{Packet}
 use Rattle.lock_wire.specs.declared.packet.Packet.TheVariants as packets
@@ -85,49 +85,3 @@ cell_same g f a b v x y e =
       | true ↦ λ t. let s = both x y a b t in e ∙ ap (λ k. g (f k b)) (sym s.0) ∙ ap (λ k. g (f x k)) (sym s.1)
       | false ↦ λ t. refl
     ] refl
-
--- Reports.
-
-pub states_zero : (w : Wire) (d n : ℕ) → states_below w d n 0 ≡ []
-unfolding states_below
-states_zero w d n = refl
-
-pub states_suc : (w : Wire) (d n k : ℕ) → states_below w d n (suc k) ≡ states_below w d n k ++ (if master_of w k == d then Some (w.local n k) else None) ∷ []
-unfolding states_below
-states_suc w d n k = refl
-
-pub states_length : (w : Wire) (d n k : ℕ) → length (states_below w d n k) ≡ k
-states_length w d n zero = ap length (states_zero w d n)
-states_length w d n (suc k) = ap length (states_suc w d n k) ∙ longer _ _ ∙ ap suc (states_length w d n k)
-  where
-    longer : {A : Type 0} (xs : List A) (x : A) → length (xs ++ x ∷ []) ≡ suc (length xs)
-    longer [] x = refl
-    longer (y ∷ xs) x = ap suc (longer xs x)
-
-get-push : {A : Type 0} (xs : List A) (x d : A) (r : ℕ) → get_or (xs ++ x ∷ []) r d ≡ (if r == length xs then x else get_or xs r d)
-get-push [] x d zero = refl
-get-push [] x d (suc r) = sym (ap (λ b. if b then x else d) (never r))
-  where
-    never : (a : ℕ) → (suc a == 0) ≡ false
-    never a = grind (arith, nat_tests)
-get-push (y ∷ xs) x d zero = sym (ap (λ b. if b then x else y) (never (length xs)))
-  where
-    never : (a : ℕ) → (0 == suc a) ≡ false
-    never a = grind (arith, nat_tests)
-get-push (y ∷ xs) x d (suc r) = get-push xs x d r ∙ ap (λ b. if b then x else get_or xs r d) (tests r (length xs))
-  where
-    tests : (a b : ℕ) → (a == b) ≡ (suc a == suc b)
-    tests a b = grind (arith, nat_tests)
-
--- what a report says of a resource
-pub state_of : (w : Wire) (d n k r : ℕ) → r < k → get_or (states_below w d n k) r None ≡ (if master_of w r == d then Some (w.local n r) else None)
-state_of w d n zero r lt = absurd (omega arith)
-state_of w d n (suc k) r lt =
-    ap (λ q. get_or q r None) (states_suc w d n k) ∙ get-push (states_below w d n k) _ None r ∙ ap (λ j. if r == j then (if master_of w k == d then Some (w.local n k) else None) else get_or (states_below w d n k) r None) (states_length w d n k)
-    ∙ (elim (r == k) as (λ b. (r == k) ≡ b → (if b then (if master_of w k == d then Some (w.local n k) else None) else get_or (states_below w d n k) r None) ≡ (if master_of w r == d then Some (w.local n r) else None)) [
-      | true ↦ λ t. let e : r ≡ k = grind (arith, nat_tests) in ap (λ j. if master_of w j == d then Some (w.local n j) else None) (sym e)
-      | false ↦ λ f. state_of w d n k r (below r k lt f)
-    ] refl)
-  where
-    below : (r k : ℕ) → r < suc k → (r == k) ≡ false → r < k
-    below r k lt f = grind (arith, nat_tests)

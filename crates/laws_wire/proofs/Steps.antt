@@ -17,7 +17,7 @@ use Rattle.lock_wire.specs.Locals.{mode_held, converting, kept}
 use Rattle.lock_wire.specs.Machine.{asking, converts, releases, entered}
 use Rattle.lock_wire.specs.declared.local.Local.{Local}
 use Rattle.lock_wire.specs.declared.local.Local.TheVariants.{Free, Asking, Held, Converting}
-use Rattle.laws_wire.specs.Views.{Word, Asked, Converted, Released, Told, View, Missing, Stuck, Is, heard, replay, entry, entry_of, view_of, proper, Awaits, Fits, told_mode, reckoned, covers}
+use Rattle.laws_wire.specs.Views.{Word, Asked, Converted, Released, Told, View, Missing, Stuck, Is, heard, replay, entry, entry_of, view_of, proper, Awaits, Fits, told_mode, reckoned, covers, open_in, Open}
 use Rattle.laws_wire.specs.Invariants.{Fitting}
 use Rattle.laws_wire.proofs.ViewLaws.{not_stuck, fits-said, fits-heard, heard-not_stuck, fits-took, Waits, fits-asking, fits-converting, covers_agrees, covers_self, agree_back, kept_below, fits_covers, never_entry}
 use Rattle.laws_wire.proofs.TableLaws.{asking-is, asked_own, asked_other, holding_own, converts-is, converted_own, converted_other, converted_held, converted_others_held, releases-is, released_own, released_other, died_own, died_other, FitsAll, FitsLocal, entered_own, entered_other, free_at-is, held_at-is, entered_held, entered_others_held, released_held, released_others_held, died_others_held, Heads, serves_conversion, serves_request}
@@ -279,6 +279,12 @@ module _ (live : ℕ → Bool) (lock : Lock) (awaited : ℕ → Bool) (local : �
 the_same : {A : Type 0} (x y : A) → Some x ≡ Some y → x ≡ y
 the_same x y e = cc
 
+pub awaits_open : (l : Local) (to : Mode) → Awaits l to → open_in l ≡ Open to
+awaits_open Free to a = absurd a
+awaits_open (Asking b) to a = ap Open a
+awaits_open (Held m) to a = absurd a
+awaits_open (Converting f b) to a = ap Open a.0
+
 -- The head is served.
 
 fits_stuck : (up : List Word) (down : List Mode) (l : Local) → Fits Stuck up down l → ⊥
@@ -370,6 +376,32 @@ module _ (live : ℕ → Bool) (lock : Lock) (awaited : ℕ → Bool) (local : �
     where
       nobody : Some NothingAsked ≡ None → ⊥
       nobody r = cc
+
+  -- what the head's node waits for: nothing is on its way to it
+  pub record HeadWaits (node : ℕ) (to : Mode) : Type 0 where
+    pub lives : live node ≡ true
+    pub none : down node ≡ []
+    pub opens : open_in (local node) ≡ Open to
+
+  head_waits : (now : Lock) (a : Ask) → Fitting live lock awaited local up down → ((n : ℕ) → live n ≡ true → awaited n ≡ false) → ((l : Local) → entry_of lock a.node ≡ Is l → Heads lock now a l) → HeadWaits a.node a.mode
+  head_waits now a i none h =
+      headed live lock now awaited local up down a (HeadWaits a.node a.mode) i none h
+      (λ l la e.
+          let v : view_of (awaited a.node) lock a.node ≡ Is l = ap (λ b. view_of b lock a.node) (none a.node la) ∙ e in
+          let w : Waits (up a.node) (down a.node) (local a.node) l = fits_awaits (up a.node) (down a.node) (local a.node) l a.mode (h l e).waits (fits-move (view_of (awaited a.node) lock a.node) (Is l) (up a.node) (up a.node) (down a.node) (down a.node) (local a.node) (local a.node) v refl refl refl (i.fits a.node la)) in
+          record { lives = la; none = w.down; opens = ap open_in w.same ∙ awaits_open l a.mode (h l e).waits })
+
+  pub serves_open : (conversions requests : List Ask) (g : Granted) → lock.conversions ≡ conversions → lock.requests ≡ requests → Fitting live lock awaited local up down → ((n : ℕ) → live n ≡ true → awaited n ≡ false) → answer_from lock conversions requests ≡ Some g → HeadWaits g.node g.mode
+  serves_open (a ∷ rest) requests g c q i none e =
+      subst (λ (x : Granted). HeadWaits x.node x.mode) (the_same (answer_to lock (mode_of lock a.node) a) g e)
+      (head_waits (record lock { held = with_at lock.held a.node (Some a.mode); conversions = rest }) a i none (λ l v. serves_conversion lock a rest l c v))
+  serves_open [] (a ∷ rest) g c q i none e =
+      subst (λ (x : Granted). HeadWaits x.node x.mode) (the_same (answer_to lock NL a) g e)
+      (head_waits (record lock { held = with_at lock.held a.node (Some a.mode); requests = rest }) a i none (λ l v. serves_request lock a rest l c q v))
+  serves_open [] [] g c q i none e = absurd (nothing e)
+    where
+      nothing : None ≡ Some g → ⊥
+      nothing x = cc
 
   -- A node dies.
 

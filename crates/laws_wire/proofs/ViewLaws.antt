@@ -156,7 +156,7 @@ heard_covers (Converting f a) k (Told t) e = absurd (not_is k e)
 not_missing : (l : Local) → Missing ≡ Is l → ⊥
 not_missing l e = cc
 
-never_missing : (l : Local) (word : Word) → heard (Is l) word ≡ Missing → ⊥
+pub never_missing : (l : Local) (word : Word) → heard (Is l) word ≡ Missing → ⊥
 never_missing Free (Asked to) e = cc
 never_missing Free (Converted to) e = cc
 never_missing Free Released e = cc

@@ -26,7 +26,9 @@ use Rattle.lock_wire.specs.declared.packet.Packet.TheVariants as packets
 use Rattle.laws_wire.specs.Views.{Word, Asked, Converted, Released, Told, Is, heard, proper, told_word, word_of, words, grant_of, grants}
 use Rattle.laws_wire.specs.Invariants.{Fitting, KeptOf, Kept, Inv}
 use Rattle.laws_wire.proofs.Steps.{same_or}
-use Rattle.laws_wire.proofs.Links.{words-push, grants-push, words-calls, grants-calls, nothing_more, cell_own, cell_to, cell_from, cell_same, state_of}
+use Rattle.laws_wire.proofs.Links.{words-push, grants-push, words-calls, grants-calls, nothing_more, cell_own, cell_to, cell_from, cell_same}
+use Rattle.lock_wire.proofs.Reports.{state_of}
+use Rattle.lock_wire.proofs.Wires.{reported-zero, reported-suc}
 use Rattle.laws_wire.proofs.Kept.{same_kept, says, takes, hears_an_ask, hears_a_conversion, hears_a_release, hears_a_report, serves_one, loses, changes_master}
 
 -- where nothing of the resource changes
@@ -236,10 +238,10 @@ same_then w v u s p q = record {
   given = λ a b. q.given a b ∙ p.given a b;
 }
 
-kept_same : (w v : Wire) (s : ℕ) → SameAt w v s → Kept w s → Kept v s
+pub kept_same : (w v : Wire) (s : ℕ) → SameAt w v s → Kept w s → Kept v s
 kept_same w v s p i = same_wire w v s p.live p.master p.awaited p.table p.local p.told p.given i
 
-calls_same : (o : Option ℕ) (w : Wire) (m r s : ℕ) → SameAt w (calls_unless o w m r) s
+pub calls_same : (o : Option ℕ) (w : Wire) (m r s : ℕ) → SameAt w (calls_unless o w m r) s
 calls_same None w m r s = record {
   live = refl;
   master = ward_keeps (λ u. u.master) w.ward r _ s refl;
@@ -323,14 +325,6 @@ stage_one : (w : Wire) (a b r : ℕ) (o : Option Local) → w.live a ≡ true �
 stage_one w a b r None la i = stage_none w a b r i
 stage_one w a b r (Some l) la i = let v = entering w a b r l in kept_unless (first_awaited v r) v b r r (stage_some w a b r l la i)
 
-reported-zero : (w : Wire) (a b : ℕ) (states : List (Option Local)) → reported w a b states 0 ≡ w
-unfolding reported
-reported-zero w a b states = refl
-
-reported-suc : (w : Wire) (a b : ℕ) (states : List (Option Local)) (k : ℕ) → reported w a b states (suc k) ≡ reported_one (reported w a b states k) a b k (slice_index_or states k None)
-unfolding reported
-reported-suc w a b states k = refl
-
 -- below k the states are entered
 record SoFar (w v : Wire) (a b : ℕ) (states : List (Option Local)) (k : ℕ) : Type 0 where
   live : v.live ≡ w.live
@@ -388,7 +382,7 @@ or_second (Some x) b e = absurd (some_none x e)
     some_none : {R : Type 0} (x : R) → Some x ≡ None → ⊥
     some_none x e = cc
 
-unless_true : {R : Type 0} (b : Bool) (r : R) → unless b r ≡ None → b ≡ true
+pub unless_true : {R : Type 0} (b : Bool) (r : R) → unless b r ≡ None → b ≡ true
 unless_true true r e = refl
 unless_true false r e = cc
 
@@ -447,7 +441,7 @@ may_serve w r e =
     }
 
 -- after the grant, before the callbacks
-abbrev serving : Wire → ℕ → Granted → Wire
+abbrev pub serving : Wire → ℕ → Granted → Wire
 serving w r g = sent (with_table (with_ward w r (record (w.ward r) { called = λ n. None })) (master_of w r) r (granted (lock_at w r))) (master_of w r) g.node (packets.Granted r (told (w.ward r).stale g))
 
 kept_serving : (w : Wire) (r : ℕ) (g : Granted) → Inv w → r < 21 → MayServe w r → grant_answer (lock_at w r) ≡ Some g → (s : ℕ) → s < 21 → Kept (serving w r g) s
@@ -487,38 +481,38 @@ kept_served w r i below e s lt = kept_answer w r (grant_answer (lock_at w r)) i 
 
 -- A death.
 
-self_test : (n : ℕ) → (n == n) ≡ true
+pub self_test : (n : ℕ) → (n == n) ≡ true
 self_test n = grind (arith, nat_tests)
 
-differ_test : (k n : ℕ) → k ≢ n → (k == n) ≡ false
+pub differ_test : (k n : ℕ) → k ≢ n → (k == n) ≡ false
 differ_test k n ne = grind (arith, nat_tests)
 
-nobody_held : (n m : ℕ) → (if m == n then None else None) ≡ (let none : Option Mode = None in none)
+pub nobody_held : (n m : ℕ) → (if m == n then None else None) ≡ (let none : Option Mode = None in none)
 nobody_held n m = elim (m == n) as (λ b. (if b then None else None) ≡ (let none : Option Mode = None in none)) [ true ↦ refl | false ↦ refl ]
 
 pub nothing_dies : (d : ℕ) → died new_lock d ≡ new_lock
 nothing_dies d = λ i. record new_lock { held = λ m. nobody_held d m i }
 
-dead_not : (w : Wire) (d : ℕ) → (without_node w d).live d ≡ false
+pub dead_not : (w : Wire) (d : ℕ) → (without_node w d).live d ≡ false
 dead_not w d = ap (λ b. if b then false else w.live d) (self_test d)
 
-dead_other : (w : Wire) (d n : ℕ) → n ≢ d → (without_node w d).live n ≡ w.live n
+pub dead_other : (w : Wire) (d n : ℕ) → n ≢ d → (without_node w d).live n ≡ w.live n
 dead_other w d n ne = ap (λ b. if b then false else w.live n) (differ_test n d ne)
 
-clash : true ≡ false → ⊥
+pub clash : true ≡ false → ⊥
 clash e = cc
 
-alive_differs : (w : Wire) (d n : ℕ) → (without_node w d).live n ≡ true → n ≢ d
+pub alive_differs : (w : Wire) (d n : ℕ) → (without_node w d).live n ≡ true → n ≢ d
 alive_differs w d n t e = clash (sym t ∙ ap (without_node w d).live e ∙ dead_not w d)
 
-alive_was : (w : Wire) (d n : ℕ) → (without_node w d).live n ≡ true → w.live n ≡ true
+pub alive_was : (w : Wire) (d n : ℕ) → (without_node w d).live n ≡ true → w.live n ≡ true
 alive_was w d n t = sym (dead_other w d n (alive_differs w d n t)) ∙ t
 
-words_if : (s : ℕ) (b : Bool) (l : List Packet) → words s (if b then [] else l) ≡ (if b then [] else words s l)
+pub words_if : (s : ℕ) (b : Bool) (l : List Packet) → words s (if b then [] else l) ≡ (if b then [] else words s l)
 words_if s true l = refl
 words_if s false l = refl
 
-grants_if : (s : ℕ) (b : Bool) (l : List Packet) → grants s (if b then [] else l) ≡ (if b then [] else grants s l)
+pub grants_if : (s : ℕ) (b : Bool) (l : List Packet) → grants s (if b then [] else l) ≡ (if b then [] else grants s l)
 grants_if s true l = refl
 grants_if s false l = refl
 
@@ -537,11 +531,11 @@ kept_without w d s i master which =
 report_word : (v : Wire) (d n s : ℕ) (o : Option Local) → s < 21 → (if master_of v s == d then Some (v.local n s) else None) ≡ o → word_of s (report_of v d n) [] ≡ told_word o []
 report_word v d n s o lt e = ap (λ q. told_word q []) (state_of v d n 21 s lt ∙ e)
 
-abbrev with_reports : Wire → ℕ → ℕ → ℕ → ℕ → List Packet
+abbrev pub with_reports : Wire → ℕ → ℕ → ℕ → ℕ → List Packet
 with_reports v d m a b = if (b == m) && v.live a then v.link a b ++ report_of v d a ∷ [] else v.link a b
 
 -- the resources of other masters stay
-over_same : (v : Wire) (d m s : ℕ) → s < 21 → master_of v s ≢ d → SameAt v (taken_over v d (Some m)) s
+pub over_same : (v : Wire) (d m s : ℕ) → s < 21 → master_of v s ≢ d → SameAt v (taken_over v d (Some m)) s
 over_same v d m s lt ne = record {
   live = refl;
   master = ap (λ b. (if b then heirs_ward v.live m else v.ward s).master) (differ_test (master_of v s) d ne);
@@ -578,10 +572,10 @@ module _ (w : Wire) (d s : ℕ) (lt : s < 21) (i : Kept w s) (e : master_of w s 
   no_words : (a b : ℕ) → words s ((without_node w d).link a b) ≡ []
   no_words a b = words_if s ((a == d) || (b == d)) (w.link a b) ∙ if_nil ((a == d) || (b == d)) (words s (w.link a b)) (λ f. i.tells a b (λ x. not_self b d (or_right (a == d) (b == d) f) (x ∙ e)))
 
-  no_grants : (a b : ℕ) → grants s ((without_node w d).link a b) ≡ []
+  pub no_grants : (a b : ℕ) → grants s ((without_node w d).link a b) ≡ []
   no_grants a b = grants_if s ((a == d) || (b == d)) (w.link a b) ∙ if_nil ((a == d) || (b == d)) (grants s (w.link a b)) (λ f. i.gives a b (λ x. not_self a d (or_left (a == d) (b == d) f) (x ∙ e)))
 
-  is_master : (master_of w s == d) ≡ true
+  pub is_master : (master_of w s == d) ≡ true
   is_master = ap (λ k. k == d) e ∙ self_test d
 
   over_dead : (m : ℕ) → (without_node w d).live m ≡ true → Kept (taken_over (without_node w d) d (Some m)) s

@@ -1,4 +1,5 @@
 pub mod Runs
 pub mod Views
 pub mod Invariants
+pub mod Tickets
 pub mod Sound

@@ -3,9 +3,9 @@ use Rattle.std.specs.Prelude.{◌≡◌, ◌≢◌, ℕ, ◌<◌, Bool, true, fa
 use Rattle.dlm_modes.specs.declared.mode.Mode.{Mode}
 use Rattle.dlm_space.specs.Orderly.{agree}
 use Rattle.lock_wire.specs.Locals.{mode_held}
-use Rattle.lock_wire.specs.Machine.{Wire, lock_at, master_of}
+use Rattle.lock_wire.specs.Machine.{Wire, lock_at, master_of, serve_refusal}
 use Rattle.laws_wire.specs.Runs.{Call, Asks, Converts, Releases, Delivers, Serves, Dies, AreAccepted, wire_after}
-use Rattle.laws_wire.specs.Views.{covers}
+use Rattle.laws_wire.specs.Views.{covers, has_report, words}
 
 -- the local modes of any two live nodes agree
 abbrev pub LocksAgree : Wire → Type 0
@@ -15,9 +15,19 @@ LocksAgree w = (r n m : ℕ) → r < 21 → n ≢ m → w.live n ≡ true → w.
 abbrev pub TablesCover : Wire → Type 0
 TablesCover w = (r n : ℕ) → r < 21 → w.live n ≡ true → (w.ward r).awaited n ≡ false → covers ((lock_at w r).held n) (mode_held (w.local n r)) ≡ true
 
+-- a report is awaited exactly where it stands on its way to the master
+abbrev pub ReportsAreAwaited : Wire → Type 0
+ReportsAreAwaited w = (r n : ℕ) → r < 21 → w.live n ≡ true → (w.ward r).awaited n ≡ has_report (words r (w.link n (master_of w r)))
+
+-- a master that serves has taken the reports of all live nodes
+abbrev pub ServesAfterReports : Wire → Type 0
+ServesAfterReports w = (r n : ℕ) → r < 21 → serve_refusal w r ≡ None → w.live n ≡ true → has_report (words r (w.link n (master_of w r))) ≡ false
+
 pub record WireSound (w : Wire) : Type 0 where
   pub agree : LocksAgree w
   pub covered : TablesCover w
+  pub awaited : ReportsAreAwaited w
+  pub rebuilt : ServesAfterReports w
 
 abbrev pub WiresAreSound : Type 0
 WiresAreSound = (nodes : ℕ) (past : List Call) → AreAccepted nodes past → WireSound (wire_after nodes past)

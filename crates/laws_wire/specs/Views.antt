@@ -108,3 +108,26 @@ abbrev pub covers : Option Mode → Option Mode → Bool
 covers a None = true
 covers None (Some b) = weaker NL b
 covers (Some a) (Some b) = weaker a b
+
+-- a report stands on the way
+abbrev pub has_report : List Word → Bool
+has_report [] = false
+has_report (Told l ∷ rest) = true
+has_report (word ∷ rest) = has_report rest
+
+-- what became of a node's last ask, or of its last conversion that waits: there is none, or it was answered; it waits; or
+-- it was answered with the mode, and the answer is on its way
+pub data Ticket : Type 0 where
+  Settled : Ticket
+  Open : (to : Mode) → Ticket
+  Answered : (to : Mode) → Ticket
+
+abbrev pub open_in : Local → Ticket
+open_in (Asking to) = Open to
+open_in (Converting from to) = Open to
+open_in l = Settled
+
+-- by the local state, and the grants on the way
+abbrev pub ticket_of : Local → List Mode → Ticket
+ticket_of l [] = open_in l
+ticket_of l (to ∷ rest) = Answered to
