@@ -64,13 +64,16 @@ kept_call w (Delivers x y) i a s lt = kept_delivered w x y i (lives w x (or_firs
 kept_call w (Serves r) i a s lt = kept_served w r i a.resource a.accepted s lt
 kept_call w (Dies n) i a s lt = kept_died w n i s lt
 
+pub lived : (w : Wire) (call : Call) (n : ℕ) → (effect w call).live n ≡ true → w.live n ≡ true
+lived w (Asks k r mode) n t = t
+lived w (Converts k r mode value) n t = t
+lived w (Releases k r value) n t = t
+lived w (Delivers x y) n t = sym (ap (λ f. f n) (live_delivered w x y)) ∙ t
+lived w (Serves r) n t = sym (ap (λ f. f n) (live_served w r)) ∙ t
+lived w (Dies d) n t = live_died w d n t
+
 nodes_call : (w : Wire) (call : Call) → Inv w → (n : ℕ) → (effect w call).live n ≡ true → n < 16
-nodes_call w (Asks k r mode) i n t = i.nodes n t
-nodes_call w (Converts k r mode value) i n t = i.nodes n t
-nodes_call w (Releases k r value) i n t = i.nodes n t
-nodes_call w (Delivers x y) i n t = i.nodes n (sym (ap (λ f. f n) (live_delivered w x y)) ∙ t)
-nodes_call w (Serves r) i n t = i.nodes n (sym (ap (λ f. f n) (live_served w r)) ∙ t)
-nodes_call w (Dies d) i n t = i.nodes n (live_died w d n t)
+nodes_call w call i n t = i.nodes n (lived w call n t)
 
 pub runs_keep : (nodes : ℕ) (past : List Call) → AreAccepted nodes past → Inv (wire_after nodes past)
 runs_keep nodes [] ok = opened_inv nodes ok.0 ok.1
@@ -142,5 +145,5 @@ inv_awaits w i r n lt ln = fits_report ((w.ward r).awaited n) (lock_at w r) n (w
 pub inv_serves : (w : Wire) → Inv w → ServesAfterReports w
 inv_serves w i r n lt e ln = sym (inv_awaits w i r n lt ln) ∙ none_awaited w r i.nodes (may_serve w r e).none n ln
 
-pub wires_are_sound : (nodes : ℕ) (past : List Call) → AreAccepted nodes past → WireSound (wire_after nodes past)
-wires_are_sound nodes past ok = let i = runs_keep nodes past ok in record { agree = inv_agrees _ i; covered = inv_covers _ i; awaited = inv_awaits _ i; rebuilt = inv_serves _ i }
+pub states_are_sound : (nodes : ℕ) (past : List Call) → AreAccepted nodes past → WireSound (wire_after nodes past)
+states_are_sound nodes past ok = let i = runs_keep nodes past ok in record { agree = inv_agrees _ i; covered = inv_covers _ i; awaited = inv_awaits _ i; rebuilt = inv_serves _ i }

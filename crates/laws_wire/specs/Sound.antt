@@ -4,7 +4,8 @@ use Rattle.dlm_modes.specs.declared.mode.Mode.{Mode}
 use Rattle.dlm_space.specs.Orderly.{agree}
 use Rattle.lock_wire.specs.Locals.{mode_held}
 use Rattle.lock_wire.specs.Machine.{Wire, lock_at, master_of, serve_refusal}
-use Rattle.laws_wire.specs.Runs.{Call, Asks, Converts, Releases, Delivers, Serves, Dies, AreAccepted, wire_after}
+use Rattle.laws_wire.specs.Runs.{Call, AreAccepted, wire_after}
+use Rattle.laws_wire.specs.Tickets.{AreAnswers}
 use Rattle.laws_wire.specs.Views.{covers, has_report, words}
 
 -- the local modes of any two live nodes agree
@@ -29,5 +30,10 @@ pub record WireSound (w : Wire) : Type 0 where
   pub awaited : ReportsAreAwaited w
   pub rebuilt : ServesAfterReports w
 
+pub record RunSound (nodes : ℕ) (past : List Call) : Type 0 where
+  pub state : WireSound (wire_after nodes past)
+  -- each grant serves the ask or the conversion that its node made last, and each that is taken answers it
+  pub answers : AreAnswers nodes past
+
 abbrev pub WiresAreSound : Type 0
-WiresAreSound = (nodes : ℕ) (past : List Call) → AreAccepted nodes past → WireSound (wire_after nodes past)
+WiresAreSound = (nodes : ℕ) (past : List Call) → AreAccepted nodes past → RunSound nodes past

@@ -1,5 +1,5 @@
 -- What a list of calls tells of each node's last ask or conversion on a resource.
-use Rattle.std.specs.Prelude.{◌≡◌, ℕ, ◌==◌, Bool, true, false, ◌&&◌, if◌then◌else◌, List, [], ◌∷◌, Option, Some, None}
+use Rattle.std.specs.Prelude.{◌≡◌, ℕ, ◌<◌, ◌==◌, Bool, true, false, ◌&&◌, if◌then◌else◌, List, [], ◌∷◌, Option, Some, None}
 use Rattle.dlm_modes.specs.declared.mode.Mode.{Mode}
 use Rattle.dlm_space.specs.declared.answers.Converted.{Converted}
 use Rattle.dlm_space.specs.declared.answers.Converted.TheVariants.{Now, Queued}
@@ -49,10 +49,14 @@ answers_open nodes past r None = Unit {0}
 answers_open nodes past r (Some g) = ticket_in nodes past g.node r ≡ Open g.mode
 
 abbrev pub answers_sent : ℕ → List Call → ℕ → Option Packet → Type 0
-answers_sent nodes past b (Some (packets.Granted r g)) = ticket_in nodes past b r ≡ Answered g.mode
+answers_sent nodes past b (Some (packets.Granted r g)) = r < 21 → ticket_in nodes past b r ≡ Answered g.mode
 answers_sent nodes past b p = Unit {0}
 
 abbrev pub IsAnswer : ℕ → List Call → Call → Type 0
 IsAnswer nodes past (Serves r) = answers_open nodes past r (serve_answer (wire_after nodes past) r)
 IsAnswer nodes past (Delivers a b) = answers_sent nodes past b (first ((wire_after nodes past).link a b))
 IsAnswer nodes past call = Unit {0}
+
+abbrev pub AreAnswers : ℕ → List Call → Type 0
+AreAnswers nodes [] = Unit {0}
+AreAnswers nodes (call ∷ past) = AreAnswers nodes past × IsAnswer nodes past call
