@@ -5,4 +5,5 @@ pub mod Links
 pub mod Kept
 pub mod Wires
 pub mod RunsKept
+pub mod Made
 pub mod Tickets

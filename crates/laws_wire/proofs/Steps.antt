@@ -264,6 +264,25 @@ module _ (live : ℕ → Bool) (lock : Lock) (awaited : ℕ → Bool) (local : �
   fits_local (Held mode) i ln an first = fits_others (Held mode) mode i ln an first refl
   fits_local (Converting from to) i ln an first = fits_others (Converting from to) from i ln an first refl
 
+  pub ask_view : (to : Mode) → Fitting live lock awaited local up down → live n ≡ true → up n ≡ Asked to ∷ rest n → entry_of lock n ≡ Is Free
+  ask_view to i ln first = (view_is (awaited n) lock n Free (hears_asked _ to (fine (Asked to) i ln first))).1
+
+  pub convert_view : (to : Mode) → Fitting live lock awaited local up down → live n ≡ true → up n ≡ Converted to ∷ rest n → (m : Mode) × (entry_of lock n ≡ Is (Held m))
+  convert_view to i ln first = let v = hears_converted _ to (fine (Converted to) i ln first) in (v.0, (view_is (awaited n) lock n (Held v.0) v.1).1)
+
+  pub release_view : Fitting live lock awaited local up down → live n ≡ true → up n ≡ Released ∷ rest n → (m : Mode) × (entry_of lock n ≡ Is (Held m))
+  release_view i ln first = let v = hears_released _ (fine Released i ln first) in (v.0, (view_is (awaited n) lock n (Held v.0) v.1).1)
+
+  pub record ReportView (l : Local) : Type 0 where
+    pub free : entry_of lock n ≡ Is Free
+    pub fits : FitsLocal lock n l
+
+  pub report_view : (l : Local) → Fitting live lock awaited local up down → live n ≡ true → up n ≡ Told l ∷ rest n → ReportView l
+  report_view l i ln first =
+      let v = hears_told _ l (fine (Told l) i ln first) in
+      let was : awaited n ≡ true = missing_awaited (awaited n) lock n v.0 in
+      record { free = i.silent n was; fits = fits_local l i ln was first }
+
   pub hears_report : (awaits : ℕ → Bool) (l : Local) → Fitting live lock awaited local up down → live n ≡ true → up n ≡ Told l ∷ rest n → ((m : ℕ) → m ≢ n → rest m ≡ up m) → awaits n ≡ false → ((m : ℕ) → m ≢ n → awaits m ≡ awaited m) → Fitting live (entered lock n l) awaits local rest down
   hears_report awaits l i ln first others an ak =
       let v = hears_told _ l (fine (Told l) i ln first) in

@@ -64,7 +64,7 @@ without_other k n q ne = asks_of-without k n q ∙ other_if n k _ _ (λ e. ne (s
 
 -- Asking.
 
-ask_free : (lock : Lock) (n : ℕ) → free_at lock n → ask_refusal lock n ≡ None
+pub ask_free : (lock : Lock) (n : ℕ) → free_at lock n → ask_refusal lock n ≡ None
 ask_free lock n f = rw (f.held, f.requests) refl
 
 pub asking-is : (lock : Lock) (n : ℕ) (to : Mode) → entry_of lock n ≡ Is Free → asking lock n to ≡ asked lock n to
@@ -88,6 +88,15 @@ against_not lock n m mode f e = grind (arith, nat_tests)
 no_blocker : (lock : Lock) (n : ℕ) (mode : Mode) (o : Option ℕ) → blocker lock n mode ≡ o → FitsAll lock n mode → blocked lock o ≡ None
 no_blocker lock n mode None e f = refl
 no_blocker lock n mode (Some m) e f = absurd (against_not lock n m mode (f m) (first_such_some (is_against lock n mode) 0 16 m e).passes)
+
+pub ask_now_free : (lock : Lock) (n : ℕ) (mode : Mode) → entry_of lock n ≡ Is Free → FitsAll lock n mode → ask_now_refusal lock n mode ≡ None
+ask_now_free lock n mode e f = ap (λ o. or_then o (blocked lock (blocker lock n mode))) (ask_free lock n (free_at-is lock n e)) ∙ no_blocker lock n mode (blocker lock n mode) refl f
+
+pub convert_held : (lock : Lock) (n : ℕ) (m : Mode) → entry_of lock n ≡ Is (Held m) → convert_refusal lock n ≡ None
+convert_held lock n m e = let f = held_at-is lock n m e in rw (f.held, f.conversions) refl
+
+pub release_held : (lock : Lock) (n : ℕ) (m : Mode) → entry_of lock n ≡ Is (Held m) → release_refusal lock n ≡ None
+release_held lock n m e = let f = held_at-is lock n m e in rw f.held refl
 
 pub asking_now-is : (lock : Lock) (n : ℕ) (mode : Mode) → entry_of lock n ≡ Is Free → FitsAll lock n mode → asking_now lock n mode ≡ holding lock n mode
 asking_now-is lock n mode e f =

@@ -28,6 +28,7 @@ use Rattle.laws_wire.specs.Invariants.{Kept, Inv}
 use Rattle.laws_wire.proofs.Steps.{same_or, HeadWaits, serves_open, awaits_open}
 use Rattle.laws_wire.proofs.Links.{grants-push, nothing_more, cell_own, cell_to, cell_from, cell_same}
 use Rattle.laws_wire.proofs.Wires.{own_test, other_word, or_first, or_second, lives, calls_same, clash, dead_not, dead_other, alive_differs, alive_was, over_same, with_reports, serving, self_test, differ_test, grants_if, no_grants, is_master, none_awaited, MayServe, may_serve, live_died}
+use Rattle.laws_wire.proofs.Made.{runs_made}
 use Rattle.laws_wire.proofs.RunsKept.{free_is, held_is, released_is, runs_keep, lived, states_are_sound}
 
 abbrev state_ticket : Wire → ℕ → ℕ → Ticket
@@ -340,4 +341,4 @@ are_answers nodes [] ok = tt
 are_answers nodes (call ∷ past) (ok, a) = (are_answers nodes past ok, is_answer nodes past call ok a)
 
 pub wires_are_sound : (nodes : ℕ) (past : List Call) → AreAccepted nodes past → RunSound nodes past
-wires_are_sound nodes past ok = record { state = states_are_sound nodes past ok; answers = are_answers nodes past ok }
+wires_are_sound nodes past ok = record { state = states_are_sound nodes past ok; answers = are_answers nodes past ok; made = runs_made nodes past ok }

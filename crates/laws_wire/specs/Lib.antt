@@ -2,4 +2,5 @@ pub mod Runs
 pub mod Views
 pub mod Invariants
 pub mod Tickets
+pub mod Made
 pub mod Sound

@@ -5,6 +5,7 @@ use Rattle.dlm_space.specs.Orderly.{agree}
 use Rattle.lock_wire.specs.Locals.{mode_held}
 use Rattle.lock_wire.specs.Machine.{Wire, lock_at, master_of, serve_refusal}
 use Rattle.laws_wire.specs.Runs.{Call, AreAccepted, wire_after}
+use Rattle.laws_wire.specs.Made.{MadeSound}
 use Rattle.laws_wire.specs.Tickets.{AreAnswers}
 use Rattle.laws_wire.specs.Views.{covers, has_report, words}
 
@@ -34,6 +35,8 @@ pub record RunSound (nodes : ℕ) (past : List Call) : Type 0 where
   pub state : WireSound (wire_after nodes past)
   -- each grant serves the ask or the conversion that its node made last, and each that is taken answers it
   pub answers : AreAnswers nodes past
+  -- a master's calls on a resource are calls of one lock space
+  pub made : (r : ℕ) → r < 21 → MadeSound nodes past r
 
 abbrev pub WiresAreSound : Type 0
 WiresAreSound = (nodes : ℕ) (past : List Call) → AreAccepted nodes past → RunSound nodes past
