@@ -9,6 +9,7 @@ use Rattle.dlm_modes.specs.declared.block.Block.{Block}
 use Rattle.dlm_modes.specs.declared.mode.Mode.{Mode}
 use Rattle.dlm_space.specs.Calls
 use Rattle.dlm_space.specs.Locks.{Lock, new_lock, died, granted, asked, holding, converted, released, valid_block, convert_answer, grant_answer, grant_refusal, ask_refusal, ask_now_refusal, convert_refusal, release_refusal}
+use Rattle.dlm_space.specs.Sound.{held_in}
 use Rattle.dlm_space.proofs.Told.{calls_are_sound}
 use Rattle.dlm_space.specs.declared.answers.Granted.{Granted}
 use Rattle.lock_wire.specs.Packets.{first, rest}
@@ -344,3 +345,9 @@ runs_made nodes past ok r lt =
       sound = calls_are_sound (made_in nodes past r) p.accepted;
       answer = ap (λ l. option_map (told ((wire_after nodes past).ward r).stale) (grant_answer l)) (sym p.leads);
     }
+
+-- what the table has is what these calls gave
+pub made_held : (nodes : ℕ) (past : List Call) → AreAccepted nodes past → (r n : ℕ) → r < 21 → (lock_at (wire_after nodes past) r).held n ≡ held_in (made_in nodes past r) r n
+made_held nodes past ok r n lt =
+    let p = runs_lead nodes past ok r lt in
+    sym (ap (λ (l : Lock). l.held n) p.leads) ∙ (calls_are_sound (made_in nodes past r) p.accepted).held r n

@@ -16,7 +16,7 @@ use Rattle.lock_wire.specs.declared.packet.Packet.TheVariants as packets
 use Rattle.laws_wire.specs.Runs.{Call, Asks, Converts, Releases, Delivers, Serves, Dies, IsOfResource, refusal, effect, IsAccepted, AreAccepted, wire_after}
 use Rattle.laws_wire.specs.Views.{Asked, Converted, Released, Is, heard, Word, Told, View, Missing, Stuck, replay, entry_of, view_of, Fits, has_report, proper, covers, reckoned, words, grants}
 use Rattle.laws_wire.specs.Invariants.{Kept, Inv}
-use Rattle.laws_wire.specs.Sound.{LocksAgree, TablesCover, ReportsAreAwaited, ServesAfterReports, WireSound}
+use Rattle.laws_wire.specs.Sound.{LocksAgree, ReportsAreAwaited, ServesAfterReports, WireSound}
 use Rattle.laws_wire.proofs.ViewLaws.{fits_covers, kept_again, kept_twice, never_missing, never_entry, not_stuck}
 use Rattle.laws_wire.proofs.Steps.{apart-covers}
 use Rattle.laws_wire.proofs.Wires.{lives, kept_said, kept_delivered, kept_served, kept_died, opened_inv, or_first, or_second, own_test, other_word, live_delivered, live_served, live_died, none_awaited, may_serve}
@@ -86,7 +86,7 @@ inv_agrees w i r n m lt ne ln lm =
     let k = i.kept r lt in
     apart-covers w.live _ (λ j. mode_held (w.local j r)) (λ j l. fits_covers ((w.ward r).awaited j) (lock_at w r) _ _ j (w.local j r) (k.fitting.fits j l)) k.fitting.apart n m ne ln lm
 
-pub inv_covers : (w : Wire) → Inv w → TablesCover w
+pub inv_covers : (w : Wire) → Inv w → (r n : ℕ) → r < 21 → w.live n ≡ true → (w.ward r).awaited n ≡ false → covers ((lock_at w r).held n) (mode_held (w.local n r)) ≡ true
 inv_covers w i r n lt ln none =
     let k = i.kept r lt in
     ap (λ b. covers (reckoned b (lock_at w r) (words r (w.link n (master_of w r))) n) (mode_held (w.local n r))) (sym none) ∙ fits_covers ((w.ward r).awaited n) (lock_at w r) _ _ n (w.local n r) (k.fitting.fits n ln)
@@ -146,4 +146,4 @@ pub inv_serves : (w : Wire) → Inv w → ServesAfterReports w
 inv_serves w i r n lt e ln = sym (inv_awaits w i r n lt ln) ∙ none_awaited w r i.nodes (may_serve w r e).none n ln
 
 pub states_are_sound : (nodes : ℕ) (past : List Call) → AreAccepted nodes past → WireSound (wire_after nodes past)
-states_are_sound nodes past ok = let i = runs_keep nodes past ok in record { agree = inv_agrees _ i; covered = inv_covers _ i; awaited = inv_awaits _ i; rebuilt = inv_serves _ i }
+states_are_sound nodes past ok = let i = runs_keep nodes past ok in record { agree = inv_agrees _ i; awaited = inv_awaits _ i; rebuilt = inv_serves _ i }

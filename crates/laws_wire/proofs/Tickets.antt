@@ -11,7 +11,7 @@ use Rattle.dlm_modes.specs.declared.mode.Mode.{Mode}
 use Rattle.dlm_space.specs.Locks.{grant_answer, granted}
 use Rattle.dlm_space.specs.declared.answers.Granted.{Granted}
 use Rattle.dlm_space.specs.declared.answers.Converted.TheVariants.{Now, Queued}
-use Rattle.lock_wire.specs.Locals.{kept, converting, converting_answer, not_free, not_convertible, not_releasable}
+use Rattle.lock_wire.specs.Locals.{mode_held, kept, converting, converting_answer, not_free, not_convertible, not_releasable}
 use Rattle.lock_wire.specs.Packets.{first, rest}
 use Rattle.lock_wire.specs.Machine
 use Rattle.lock_wire.specs.Machine.{Wire, Ward, with_cell, master_of, lock_at, first_awaited, with_local, sent, with_table, with_ward, written, calls_unless, calls_out, reported_one, reported, received, delivered, told, serve_answer, served_to, served, heir, report_of, without_node, heirs_ward, taken_over, died_of, opened, convert_from, answer_from, asking, converts, releases, convert_writes, release_writes}
@@ -21,15 +21,15 @@ use Rattle.lock_wire.specs.declared.packet.Packet.{Packet}
 use Rattle.lock_wire.specs.declared.packet.Packet.TheVariants as packets
 use Rattle.lock_wire.proofs.Wires.{reported-zero, reported-suc}
 use Rattle.laws_wire.specs.Runs.{Call, Asks, Converts, Releases, Delivers, Serves, Dies, refusal, effect, IsAccepted, AreAccepted, wire_after}
-use Rattle.laws_wire.specs.Views.{Word, View, Is, words, grant_of, grants, view_of, Awaits, Fits, Ticket, Settled, Open, Answered, open_in, ticket_of}
+use Rattle.laws_wire.specs.Views.{Word, View, Is, words, grant_of, grants, view_of, Awaits, Fits, Ticket, Settled, Open, Answered, open_in, ticket_of, covers}
 use Rattle.laws_wire.specs.Tickets.{converted_to, granted_to, took, lost, ticket_at, ticket_in, answers_open, answers_sent, IsAnswer, AreAnswers}
-use Rattle.laws_wire.specs.Sound.{RunSound}
+use Rattle.laws_wire.specs.Sound.{MastersCover, RunSound}
 use Rattle.laws_wire.specs.Invariants.{Kept, Inv}
 use Rattle.laws_wire.proofs.Steps.{same_or, HeadWaits, serves_open, awaits_open}
 use Rattle.laws_wire.proofs.Links.{grants-push, nothing_more, cell_own, cell_to, cell_from, cell_same}
 use Rattle.laws_wire.proofs.Wires.{own_test, other_word, or_first, or_second, lives, calls_same, clash, dead_not, dead_other, alive_differs, alive_was, over_same, with_reports, serving, self_test, differ_test, grants_if, no_grants, is_master, none_awaited, MayServe, may_serve, live_died}
-use Rattle.laws_wire.proofs.Made.{runs_made}
-use Rattle.laws_wire.proofs.RunsKept.{free_is, held_is, released_is, runs_keep, lived, states_are_sound}
+use Rattle.laws_wire.proofs.Made.{runs_made, made_held}
+use Rattle.laws_wire.proofs.RunsKept.{free_is, held_is, released_is, runs_keep, lived, states_are_sound, inv_covers, inv_awaits}
 
 abbrev state_ticket : Wire → ℕ → ℕ → Ticket
 state_ticket w n s = ticket_of (w.local n s) (grants s (w.link (master_of w s) n))
@@ -340,5 +340,11 @@ pub are_answers : (nodes : ℕ) (past : List Call) → AreAccepted nodes past �
 are_answers nodes [] ok = tt
 are_answers nodes (call ∷ past) (ok, a) = (are_answers nodes past ok, is_answer nodes past call ok a)
 
+masters_cover : (nodes : ℕ) (past : List Call) → AreAccepted nodes past → MastersCover nodes past
+masters_cover nodes past ok r n lt ln none =
+    let w = wire_after nodes past in
+    let i = runs_keep nodes past ok in
+    subst (λ h. covers h (mode_held (w.local n r)) ≡ true) (made_held nodes past ok r n lt) (inv_covers w i r n lt ln (inv_awaits w i r n lt ln ∙ none))
+
 pub wires_are_sound : (nodes : ℕ) (past : List Call) → AreAccepted nodes past → RunSound nodes past
-wires_are_sound nodes past ok = record { state = states_are_sound nodes past ok; answers = are_answers nodes past ok; made = runs_made nodes past ok }
+wires_are_sound nodes past ok = record { state = states_are_sound nodes past ok; answers = are_answers nodes past ok; covered = masters_cover nodes past ok; made = runs_made nodes past ok }

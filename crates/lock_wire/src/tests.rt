@@ -220,3 +220,42 @@ fn scripts(rt: HostRuntime) -> Result<(), AllocError> {
     }
     Ok(())
 }
+
+// Sixteen nodes hold each of the resources. They die in turn, and what the others hold goes with the reports
+// from master to master. The last one converts all.
+#[test]
+fn all_nodes_and_resources(rt: HostRuntime) -> Result<(), AllocError> {
+    let mut wire = Wire::open(rt.alloc(), 16)?;
+    for r in 0..21usize {
+        let m = (r % 16) as NodeId;
+        for n in 0..16 {
+            assert_eq!(rt; apply(&mut wire, Call::Ask(n, r, Mode::CR)), Answer::Done);
+            assert_eq!(rt; apply(&mut wire, Call::Deliver(n, m)), Answer::Took(Taken::Ask));
+            assert_eq!(rt; apply(&mut wire, Call::Serve(r)), Answer::Granted(n, Mode::CR, true));
+            assert_eq!(rt; apply(&mut wire, Call::Deliver(m, n)), Answer::Took(Taken::Granted));
+        }
+    }
+    for d in 0..15u8 {
+        let next = d + 1;
+        assert_eq!(rt; apply(&mut wire, Call::Die(d)), Answer::Done);
+        for n in next..16 {
+            assert_eq!(rt; apply(&mut wire, Call::Deliver(n, next)), Answer::Took(Taken::Report));
+        }
+        for r in 0..21 {
+            assert_eq!(rt; apply(&mut wire, Call::Holds(15, r)), Answer::Holds(Some(Mode::CR)));
+            assert_eq!(rt; apply(&mut wire, Call::Holds(d, r)), Answer::Holds(None));
+            let none = Answer::Lock(LockError::NothingAsked);
+            assert_eq!(rt; apply(&mut wire, Call::Serve(r)), none);
+        }
+    }
+    for r in 0..21 {
+        let queued = Answer::Converted(Converted::Queued);
+        assert_eq!(rt; apply(&mut wire, Call::Convert(15, r, Mode::EX)), queued);
+        assert_eq!(rt; apply(&mut wire, Call::Deliver(15, 15)), Answer::Took(Taken::Convert));
+        // No master saw these blocks written since it took over, but for those that were its own from the start.
+        assert_eq!(rt; apply(&mut wire, Call::Serve(r)), Answer::Granted(15, Mode::EX, r == 15));
+        assert_eq!(rt; apply(&mut wire, Call::Deliver(15, 15)), Answer::Took(Taken::Granted));
+        assert_eq!(rt; apply(&mut wire, Call::Holds(15, r)), Answer::Holds(Some(Mode::EX)));
+    }
+    Ok(())
+}
