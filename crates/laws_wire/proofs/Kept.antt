@@ -1,15 +1,15 @@
 -- What each call keeps of one resource of a spread space.
-use Rattle.std.proofs.Common.{◌≡◌, ◌≢◌, ◌⊎◌, inl, inr, ℕ, ◌<◌, ◌≤◌, List, [], ◌∷◌, ◌++◌, Bool, true, false, not, ◌==◌, ◌&&◌, ◌||◌, Option, Some, None, refl, sym, ap, ◌∙◌, subst, arith, if◌then◌else◌}
+use Rattle.std.proofs.Common.{◌≡◌, ◌≢◌, ◌⊎◌, inl, inr, ℕ, ◌<◌, List, [], ◌∷◌, ◌++◌, Bool, true, false, ◌==◌, ◌||◌, Option, Some, None, refl, sym, ap, ◌∙◌, subst, arith, if◌then◌else◌}
 use Rattle.std.proofs.lemmas.Bool.Decides.{nat_tests}
 use Rattle.std.proofs.Math.Path.{fun_ext}
 use Rattle.dlm_modes.specs.declared.block.Block.{Block}
 use Rattle.dlm_modes.specs.declared.mode.Mode.{Mode}
-use Rattle.dlm_space.specs.Locks.{Lock, new_lock, died, head_refusal, granted_from, granted, answer_from}
+use Rattle.dlm_space.specs.Locks.{Lock, new_lock, died, head_refusal, granted, answer_from}
 use Rattle.dlm_space.specs.Queues.{head}
 use Rattle.dlm_space.specs.declared.answers.Granted.{Granted}
 use Rattle.lock_wire.specs.Machine.{asking, converts, releases, entered}
 use Rattle.lock_wire.specs.declared.local.Local.{Local}
-use Rattle.lock_wire.specs.declared.local.Local.TheVariants.{Free, Asking, Held, Converting}
+use Rattle.lock_wire.specs.declared.local.Local.TheVariants.{Held}
 use Rattle.laws_wire.specs.Views.{Word, Asked, Converted, Released, Told, Is, heard, proper}
 use Rattle.laws_wire.specs.Invariants.{Fitting, KeptOf}
 use Rattle.laws_wire.proofs.Steps.{same_or, said, took, hears_ask, hears_convert, hears_release, hears_report, serves, dies, takes_over}
@@ -106,12 +106,16 @@ module _ (live : ℕ → Bool) (m : ℕ) (awaited : ℕ → Bool) (table : ℕ �
     where
       other : (k n : ℕ) → k ≢ n → (k == n) ≡ false
       other k n ne = grind (arith, nat_tests)
+
       not_master : (n : ℕ) → live' n ≡ true → m ≢ d
       not_master n t = elim which [ inl ne ↦ ne | inr f ↦ absurd (f n t) ]
+
       unlinked : {A : Type 0} (n : ℕ) → n ≢ d → live' n ≡ true → (x : List A) → (if (n == d) || (m == d) then [] else x) ≡ x
       unlinked n ne t x = ap (λ b. if b || (m == d) then [] else x) (other n d ne) ∙ ap (λ b. if b then [] else x) (other m d (not_master n t))
+
       unlinked_back : {A : Type 0} (n : ℕ) → n ≢ d → live' n ≡ true → (x : List A) → (if (m == d) || (n == d) then [] else x) ≡ x
       unlinked_back n ne t x = ap (λ b. if b || (n == d) then [] else x) (other m d (not_master n t)) ∙ ap (λ b. if b then [] else x) (other n d ne)
+
       nil : {A : Type 0} (b : Bool) → (if b then [] else []) ≡ (let n : List A = [] in n)
       nil true = refl
       nil false = refl

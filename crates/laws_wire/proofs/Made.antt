@@ -1,5 +1,5 @@
 -- The calls of each master are calls of one lock space.
-use Rattle.std.proofs.Common.{◌≡◌, ◌≢◌, ◌⊎◌, inl, inr, ℕ, zero, suc, ◌<◌, ◌≤◌, List, [], ◌∷◌, Bool, true, false, ◌==◌, ◌&&◌, Option, Some, None, refl, sym, ap, ◌∙◌, subst, arith, if◌then◌else◌}
+use Rattle.std.proofs.Common.{◌≡◌, ◌≢◌, ◌⊎◌, inl, inr, ℕ, zero, suc, ◌<◌, ◌≤◌, List, [], ◌∷◌, true, false, ◌==◌, Option, Some, None, refl, sym, ap, ◌∙◌, subst, arith, if◌then◌else◌}
 use Rattle.std.specs.Prelude.{slice_index_or}
 use Rattle.std.specs.Option.{option_map}
 use Rattle.std.proofs.lemmas.Bool.Decides.{nat_tests}
@@ -8,7 +8,7 @@ use Rattle.dlm_modes.specs.Points.{with_at}
 use Rattle.dlm_modes.specs.declared.block.Block.{Block}
 use Rattle.dlm_modes.specs.declared.mode.Mode.{Mode}
 use Rattle.dlm_space.specs.Calls
-use Rattle.dlm_space.specs.Locks.{Lock, new_lock, died, granted, asked, holding, converted, released, valid_block, convert_answer, grant_answer, grant_refusal, ask_refusal, ask_now_refusal, convert_refusal, release_refusal}
+use Rattle.dlm_space.specs.Locks.{Lock, died, granted, asked, holding, converted, released, grant_answer, grant_refusal, ask_refusal, ask_now_refusal, convert_refusal, release_refusal}
 use Rattle.dlm_space.specs.Sound.{held_in}
 use Rattle.dlm_space.proofs.Told.{calls_are_sound}
 use Rattle.dlm_space.specs.declared.answers.Granted.{Granted}
@@ -20,14 +20,14 @@ use Rattle.lock_wire.specs.declared.local.Local.TheVariants.{Free, Asking, Held,
 use Rattle.lock_wire.specs.declared.packet.Packet.{Packet}
 use Rattle.lock_wire.specs.declared.packet.Packet.TheVariants as packets
 use Rattle.lock_wire.proofs.Wires.{reported-zero, reported-suc}
-use Rattle.laws_wire.specs.Runs.{Call, Asks, Converts, Releases, Delivers, Serves, Dies, refusal, effect, IsAccepted, AreAccepted, wire_after}
+use Rattle.laws_wire.specs.Runs.{Call, Asks, Converts, Releases, Delivers, Serves, Dies, effect, IsAccepted, AreAccepted, wire_after}
 use Rattle.laws_wire.specs.Views.{Word, Asked, Converted, Released, Told, Is, words, grants, entry_of, told_word}
 use Rattle.laws_wire.specs.Made.{reporting, hearing, serving, dying, made_at, made_in, MadeSound}
 use Rattle.laws_wire.specs.Invariants.{Kept, Inv}
-use Rattle.laws_wire.proofs.Steps.{same_or, ask_view, convert_view, release_view, report_view, ReportView}
+use Rattle.laws_wire.proofs.Steps.{same_or, ask_view, convert_view, release_view, report_view}
 use Rattle.laws_wire.proofs.TableLaws.{free_at-is, ask_free, ask_now_free, convert_held, release_held, asking-is, asking_now-is, holding_own, converts-is, releases-is, FitsAll, FitsLocal}
-use Rattle.laws_wire.proofs.Links.{cell_own, cell_to, cell_from}
-use Rattle.laws_wire.proofs.Wires.{own_test, other_word, or_first, or_second, lives, calls_same, SameAt, alive_differs, alive_was, nothing_dies, self_test, differ_test, may_serve, MayServe}
+use Rattle.laws_wire.proofs.Links.{cell_own, cell_to}
+use Rattle.laws_wire.proofs.Wires.{own_test, other_word, or_first, lives, calls_same, SameAt, alive_differs, alive_was, nothing_dies, self_test, differ_test, may_serve, MayServe}
 use Rattle.laws_wire.proofs.RunsKept.{runs_keep}
 
 -- the calls were accepted, and lead to the lock
@@ -171,6 +171,7 @@ by_then w a b states (suc k) r lt at =
   where
     less : (s k : ℕ) → s < suc k → s ≢ k → s < k
     less s k lt ne = grind (arith, nat_tests)
+
     below : (r k : ℕ) → r ≡ k → k ≤ r
     below r k e = omega arith
 
@@ -192,8 +193,10 @@ module _ (w : Wire) (a b : ℕ) (i : Inv w) (la : w.live a ≡ true) (past : Lis
     where
       u : Wire
       u = heard_state w w.ward a b s ps (asking (w.table b s) a to)
+
       v : Wire
       v = calls_unless (first_awaited u s) u b s
+
       here : Kept w s → Leads past s (lock_at w s) → Leads (if s == s then Calls.Asks a s to ∷ past else past) s (lock_at v s)
       here k p =
           let t = told_by s (packets.Ask s to) ps (Asked to) e (own_test s _ _) in
@@ -211,12 +214,16 @@ module _ (w : Wire) (a b : ℕ) (i : Inv w) (la : w.live a ≡ true) (past : Lis
     where
       wards : ℕ → Ward
       wards = (written w s (convert_writes (w.table b s) a to value)).ward
+
       masters : (j : ℕ) → (wards j).master ≡ master_of w j
       masters j = ward_keeps (λ x. x.master) w.ward s _ j refl
+
       u : Wire
       u = heard_state w wards a b s ps (converts (w.table b s) a to value)
+
       v : Wire
       v = calls_unless (first_awaited u s) u b s
+
       here : Kept w s → Leads past s (lock_at w s) → Leads (if s == s then Rattle.laws_wire.specs.Made.converting past s a to value else past) s (lock_at v s)
       here k p =
           let t = told_by s (packets.Convert s to value) ps (Converted to) e (own_test s _ _) in
@@ -234,12 +241,16 @@ module _ (w : Wire) (a b : ℕ) (i : Inv w) (la : w.live a ≡ true) (past : Lis
     where
       wards : ℕ → Ward
       wards = (written w s (release_writes (w.table b s) a value)).ward
+
       masters : (j : ℕ) → (wards j).master ≡ master_of w j
       masters j = ward_keeps (λ x. x.master) w.ward s _ j refl
+
       u : Wire
       u = heard_state w wards a b s ps (releases (w.table b s) a value)
+
       v : Wire
       v = calls_unless (first_awaited u s) u b s
+
       here : Kept w s → Leads past s (lock_at w s) → Leads (if s == s then Calls.Releases a s value ∷ past else past) s (lock_at v s)
       here k p =
           let t = told_by s (packets.Release s value) ps Released e (own_test s _ _) in
@@ -284,10 +295,13 @@ served_leads w s r past (Some g) may e p = elim (same_or r s) [
   where
     v : Wire
     v = served_to w (master_of w s) s (Some (told (w.ward s).stale g))
+
     twice : {A : Type 0} (f : Ward → A) (ward : ℕ → Ward) (k : ℕ) (x y : Ward) (j : ℕ) → f x ≡ f (ward k) → f y ≡ f (with_at ward k x k) → f (with_at (with_at ward k x) k y j) ≡ f (ward j)
     twice f ward k x y j ex ey = ward_keeps f (with_at ward k x) k y j ey ∙ ward_keeps f ward k x j ex
+
     masters : (j : ℕ) → master_of v j ≡ master_of w j
     masters j = twice (λ u. u.master) w.ward s _ _ j refl refl
+
     here : Leads past s (lock_at w s) → Leads (if s == s then serving past s (grant_answer (Calls.locks_after past s)) else past) s (lock_at v s)
     here p =
         let answer : grant_answer (Calls.locks_after past s) ≡ Some g = ap grant_answer p.leads ∙ e in
@@ -320,6 +334,7 @@ died_leads w d r past (Some m) i lt ld e p = elim (same_or (master_of w r) d) [
   where
     u : Wire
     u = taken_over (without_node w d) d (Some m)
+
     alive : (without_node w d).live m ≡ true
     alive = (first_such_some (without_node w d).live 0 16 m e).passes
 

@@ -1,7 +1,6 @@
 -- Every list of accepted calls keeps the invariant.
-use Rattle.std.proofs.Common.{◌≡◌, ◌≢◌, ◌⊎◌, inl, inr, ℕ, ◌<◌, ◌≤◌, List, [], ◌∷◌, Bool, true, false, not, ◌==◌, ◌&&◌, Option, Some, None, refl, sym, ap, ◌∙◌, subst, arith, if◌then◌else◌}
+use Rattle.std.proofs.Common.{◌≡◌, ℕ, ◌<◌, List, [], ◌∷◌, Bool, true, false, None, refl, sym, ap, ◌∙◌, arith, if◌then◌else◌}
 use Rattle.std.proofs.lemmas.Bool.Decides.{nat_tests}
-use Rattle.dlm_modes.specs.Guards.{or_then}
 use Rattle.dlm_modes.specs.Modes.{weaker}
 use Rattle.dlm_modes.specs.declared.mode.Mode.{Mode}
 use Rattle.dlm_space.specs.Locks.{Lock}
@@ -9,12 +8,11 @@ use Rattle.dlm_space.specs.Queues.{asks_of}
 use Rattle.lock_wire.specs.Locals.{mode_held, kept, converting, not_free, not_convertible, not_releasable}
 use Rattle.lock_wire.specs.Machine
 use Rattle.lock_wire.specs.Machine.{Wire, master_of, lock_at, convert_from, calls_unless, calls_out, received, reported, reported_one, taken_over, without_node, served_to}
-use Rattle.lock_wire.specs.declared.ends.WireEnd.{WireEnd}
 use Rattle.lock_wire.specs.declared.local.Local.{Local}
 use Rattle.lock_wire.specs.declared.local.Local.TheVariants.{Free, Asking, Held, Converting}
 use Rattle.lock_wire.specs.declared.packet.Packet.TheVariants as packets
-use Rattle.laws_wire.specs.Runs.{Call, Asks, Converts, Releases, Delivers, Serves, Dies, IsOfResource, refusal, effect, IsAccepted, AreAccepted, wire_after}
-use Rattle.laws_wire.specs.Views.{Asked, Converted, Released, Is, heard, Word, Told, View, Missing, Stuck, replay, entry_of, view_of, Fits, has_report, proper, covers, reckoned, words, grants}
+use Rattle.laws_wire.specs.Runs.{Call, Asks, Converts, Releases, Delivers, Serves, Dies, effect, IsAccepted, AreAccepted, wire_after}
+use Rattle.laws_wire.specs.Views.{Asked, Converted, Released, Is, heard, Word, Told, Missing, Stuck, replay, entry_of, view_of, Fits, has_report, proper, covers, reckoned, words, grants}
 use Rattle.laws_wire.specs.Invariants.{Kept, Inv}
 use Rattle.laws_wire.specs.Sound.{LocksAgree, ReportsAreAwaited, ServesAfterReports, WireSound}
 use Rattle.laws_wire.proofs.ViewLaws.{fits_covers, kept_again, kept_twice, never_missing, never_entry, not_stuck}

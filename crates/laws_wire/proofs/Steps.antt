@@ -1,11 +1,11 @@
 -- What each call keeps of one resource.
-use Rattle.std.proofs.Common.{◌≡◌, ◌≢◌, ◌⊎◌, inl, inr, ℕ, ◌<◌, ◌≤◌, List, [], ◌∷◌, ◌++◌, Bool, true, false, not, ◌==◌, ◌&&◌, Option, Some, None, refl, sym, ap, ◌∙◌, subst, arith, if◌then◌else◌}
+use Rattle.std.proofs.Common.{◌≡◌, ◌≢◌, ◌⊎◌, inl, inr, ℕ, ◌<◌, ◌≤◌, List, [], ◌∷◌, ◌++◌, Bool, true, false, ◌==◌, Option, Some, None, refl, sym, ap, ◌∙◌, subst, arith, if◌then◌else◌}
 use Rattle.std.proofs.lemmas.Bool.Decides.{nat_tests}
 use Rattle.dlm_modes.specs.Modes.{weaker}
 use Rattle.dlm_modes.specs.Points.{with_at}
 use Rattle.dlm_modes.specs.declared.block.Block.{Block}
 use Rattle.dlm_modes.specs.declared.mode.Mode.{Mode}
-use Rattle.dlm_space.specs.Locks.{Lock, new_lock, disagrees, blocker, asked, holding, converted, released, died, mode_of, granted_from, answer_to, answer_from, head_refusal}
+use Rattle.dlm_space.specs.Locks.{Lock, new_lock, disagrees, asked, converted, released, died, mode_of, granted_from, answer_to, answer_from, head_refusal}
 use Rattle.dlm_space.specs.Orderly.{agree}
 use Rattle.dlm_space.specs.Queues.{asks_of, head}
 use Rattle.dlm_modes.specs.declared.mode.Mode.TheVariants.{NL}
@@ -13,14 +13,14 @@ use Rattle.dlm_space.specs.declared.ask.Ask.{Ask}
 use Rattle.dlm_space.specs.declared.answers.Granted.{Granted}
 use Rattle.dlm_space.specs.declared.answers.LockError.TheVariants.{NothingAsked}
 use Rattle.dlm_space.proofs.GuardLaws.{none_against, head_grantable}
-use Rattle.lock_wire.specs.Locals.{mode_held, converting, kept}
+use Rattle.lock_wire.specs.Locals.{mode_held}
 use Rattle.lock_wire.specs.Machine.{asking, converts, releases, entered}
 use Rattle.lock_wire.specs.declared.local.Local.{Local}
 use Rattle.lock_wire.specs.declared.local.Local.TheVariants.{Free, Asking, Held, Converting}
-use Rattle.laws_wire.specs.Views.{Word, Asked, Converted, Released, Told, View, Missing, Stuck, Is, heard, replay, entry, entry_of, view_of, proper, Awaits, Fits, told_mode, reckoned, covers, open_in, Open}
+use Rattle.laws_wire.specs.Views.{Word, Asked, Converted, Released, Told, View, Missing, Stuck, Is, heard, entry_of, view_of, proper, Awaits, Fits, told_mode, reckoned, covers, open_in, Open}
 use Rattle.laws_wire.specs.Invariants.{Fitting}
-use Rattle.laws_wire.proofs.ViewLaws.{not_stuck, fits-said, fits-heard, heard-not_stuck, fits-took, Waits, fits-asking, fits-converting, covers_agrees, covers_self, agree_back, kept_below, fits_covers, never_entry}
-use Rattle.laws_wire.proofs.TableLaws.{asking-is, asked_own, asked_other, holding_own, converts-is, converted_own, converted_other, converted_held, converted_others_held, releases-is, released_own, released_other, died_own, died_other, FitsAll, FitsLocal, entered_own, entered_other, free_at-is, held_at-is, entered_held, entered_others_held, released_held, released_others_held, died_others_held, Heads, serves_conversion, serves_request}
+use Rattle.laws_wire.proofs.ViewLaws.{not_stuck, fits-said, fits-heard, heard-not_stuck, fits-took, Waits, fits-asking, fits-converting, covers_agrees, covers_self, agree_back, fits_covers, never_entry}
+use Rattle.laws_wire.proofs.TableLaws.{asking-is, asked_own, asked_other, converts-is, converted_own, converted_other, converted_held, converted_others_held, releases-is, released_own, released_other, died_own, died_other, FitsAll, FitsLocal, entered_own, entered_other, free_at-is, held_at-is, entered_held, entered_others_held, released_held, released_others_held, died_others_held, Heads, serves_conversion, serves_request}
 
 pub same_or : (k n : ℕ) → (k ≡ n) ⊎ (k ≢ n)
 same_or k n = elim (k == n) as (λ b. (k == n) ≡ b → (k ≡ n) ⊎ (k ≢ n)) [ true ↦ λ t. inl (grind (arith, nat_tests)) | false ↦ λ f. inr (λ e. differs k n f e) ] refl
@@ -91,8 +91,8 @@ said live lock awaited local now up more down n k word i ln h p nn nk mo mk = re
   silent = i.silent;
   apart = apart-covers live (λ m. reckoned (awaited m) lock (up m) m) (λ m. reckoned (awaited m) lock (more m) m)
       (at_each (λ m. live m ≡ true → covers (reckoned (awaited m) lock (up m) m) (reckoned (awaited m) lock (more m) m) ≡ true) n
-          (λ l. covers_same _ _ (reckoned_up (awaited n) lock _ _ n mo ∙ said_reckoned (awaited n) lock (up n) word (down n) n (local n) (i.fits n l)))
-          (λ m ne l. covers_same _ _ (reckoned_up (awaited m) lock _ _ m (mk m ne))))
+      (λ l. covers_same _ _ (reckoned_up (awaited n) lock _ _ n mo ∙ said_reckoned (awaited n) lock (up n) word (down n) n (local n) (i.fits n l)))
+      (λ m ne l. covers_same _ _ (reckoned_up (awaited m) lock _ _ m (mk m ne))))
       i.apart;
   proper = at_each (λ m. live m ≡ true → proper (now m) ≡ true) n (λ l. ap proper nn ∙ p) (λ m ne l. ap proper (nk m ne) ∙ i.proper m l);
 }
@@ -124,8 +124,8 @@ heard_of live lock now awaited awaits local up rest down n word i ln first other
   silent = at_each (λ m. awaits m ≡ true → entry_of now m ≡ Is Free) n (λ t. absurd (true_not_false (sym t ∙ an))) (λ m ne t. other m ne ∙ i.silent m (sym (ak m ne) ∙ t));
   apart = apart-covers live (λ m. reckoned (awaited m) lock (up m) m) (λ m. reckoned (awaits m) now (rest m) m)
       (at_each (λ m. live m ≡ true → covers (reckoned (awaited m) lock (up m) m) (reckoned (awaits m) now (rest m) m) ≡ true) n
-          (λ l. ap (λ b. covers (reckoned (awaited n) lock (up n) n) (reckoned b now (rest n) n)) an ∙ ap (λ u. covers (reckoned (awaited n) lock u n) (now.held n)) first ∙ cov)
-          (λ m ne l. covers_same _ _ (ap (λ b. reckoned b now (rest m) m) (ak m ne) ∙ ap (λ u. reckoned (awaited m) now u m) (others m ne) ∙ same_held (awaited m) m (held m ne) (up m))))
+      (λ l. ap (λ b. covers (reckoned (awaited n) lock (up n) n) (reckoned b now (rest n) n)) an ∙ ap (λ u. covers (reckoned (awaited n) lock u n) (now.held n)) first ∙ cov)
+      (λ m ne l. covers_same _ _ (ap (λ b. reckoned b now (rest m) m) (ak m ne) ∙ ap (λ u. reckoned (awaited m) now u m) (others m ne) ∙ same_held (awaited m) m (held m ne) (up m))))
       i.apart;
   proper = i.proper;
 }
@@ -216,10 +216,10 @@ module _ (live : ℕ → Bool) (lock : Lock) (awaited : ℕ → Bool) (local : �
       let f = free_at-is lock n e.1 in
       rw (asking-is lock n to e.1)
       (heard_of live lock (asked lock n to) awaited awaited local up rest down n (Asked to) i ln first others e.0 (λ m ne. refl)
-          (asked_own lock n to e.1 ∙ sym (ap (λ w. heard w (Asked to)) v))
-          (λ m ne. asked_other lock n m to ne)
-          (subst (λ h. covers (reckoned (awaited n) lock (Asked to ∷ rest n) n) h ≡ true) (sym f.held) refl)
-          (λ m ne. refl))
+      (asked_own lock n to e.1 ∙ sym (ap (λ w. heard w (Asked to)) v))
+      (λ m ne. asked_other lock n m to ne)
+      (subst (λ h. covers (reckoned (awaited n) lock (Asked to ∷ rest n) n) h ≡ true) (sym f.held) refl)
+      (λ m ne. refl))
 
   pub hears_convert : (to : Mode) (value : Option Block) → Fitting live lock awaited local up down → live n ≡ true → up n ≡ Converted to ∷ rest n → ((m : ℕ) → m ≢ n → rest m ≡ up m) → Fitting live (converts lock n to value) awaited local rest down
   hears_convert to value i ln first others =
@@ -228,11 +228,11 @@ module _ (live : ℕ → Bool) (lock : Lock) (awaited : ℕ → Bool) (local : �
       let f = held_at-is lock n v.0 e.1 in
       rw (converts-is lock n v.0 to value e.1)
       (heard_of live lock (converted lock n to value) awaited awaited local up rest down n (Converted to) i ln first others e.0 (λ m ne. refl)
-          (converted_own lock n v.0 to value e.1 ∙ sym (ap (λ w. heard w (Converted to)) v.1))
-          (λ m ne. converted_other lock n m to value ne)
-          (subst (λ h. covers h ((converted lock n to value).held n) ≡ true) (sym (table_reckoned (awaited n) lock _ n e.0 ∙ f.held))
-              (subst (λ h. covers (Some v.0) h ≡ true) (sym (converted_held lock n v.0 to value e.1)) (covers_converted v.0 to)))
-          (λ m ne. converted_others_held lock n m to value ne))
+      (converted_own lock n v.0 to value e.1 ∙ sym (ap (λ w. heard w (Converted to)) v.1))
+      (λ m ne. converted_other lock n m to value ne)
+      (subst (λ h. covers h ((converted lock n to value).held n) ≡ true) (sym (table_reckoned (awaited n) lock _ n e.0 ∙ f.held))
+      (subst (λ h. covers (Some v.0) h ≡ true) (sym (converted_held lock n v.0 to value e.1)) (covers_converted v.0 to)))
+      (λ m ne. converted_others_held lock n m to value ne))
 
   pub hears_release : (value : Option Block) → Fitting live lock awaited local up down → live n ≡ true → up n ≡ Released ∷ rest n → ((m : ℕ) → m ≢ n → rest m ≡ up m) → Fitting live (releases lock n value) awaited local rest down
   hears_release value i ln first others =
@@ -240,22 +240,22 @@ module _ (live : ℕ → Bool) (lock : Lock) (awaited : ℕ → Bool) (local : �
       let e = view_is (awaited n) lock n (Held v.0) v.1 in
       rw (releases-is lock n v.0 value e.1)
       (heard_of live lock (released lock n value) awaited awaited local up rest down n Released i ln first others e.0 (λ m ne. refl)
-          (released_own lock n v.0 value e.1 ∙ sym (ap (λ w. heard w Released) v.1))
-          (λ m ne. released_other lock n m value ne)
-          (subst (λ h. covers (reckoned (awaited n) lock (Released ∷ rest n) n) h ≡ true) (sym (released_held lock n value)) refl)
-          (λ m ne. released_others_held lock n m value ne))
+      (released_own lock n v.0 value e.1 ∙ sym (ap (λ w. heard w Released) v.1))
+      (λ m ne. released_other lock n m value ne)
+      (subst (λ h. covers (reckoned (awaited n) lock (Released ∷ rest n) n) h ≡ true) (sym (released_held lock n value)) refl)
+      (λ m ne. released_others_held lock n m value ne))
 
   -- what a node reports disagrees with no holder
   fits_others : (l : Local) (f : Mode) → Fitting live lock awaited local up down → live n ≡ true → awaited n ≡ true → up n ≡ Told l ∷ rest n → mode_held l ≡ Some f → FitsAll lock n f
   fits_others l f i ln an first h m ne = elim (truth (live m)) [
     | inr dead ↦ ap (disagrees f) (free_at-is lock m (i.gone m dead)).held
     | inl lm ↦ elim (truth (awaited m)) [
-        | inl am ↦ ap (disagrees f) (free_at-is lock m (i.silent m am)).held
-        | inr am ↦
-            let told : reckoned (awaited n) lock (up n) n ≡ Some f = awaited_reckoned (awaited n) lock (up n) n an ∙ ap told_mode first ∙ h in
-            let there : reckoned (awaited m) lock (up m) m ≡ lock.held m = table_reckoned (awaited m) lock (up m) m am in
-            disagrees_not f (lock.held m) (subst (λ x. agree (Some f) x ≡ true) there (subst (λ x. agree x (reckoned (awaited m) lock (up m) m) ≡ true) told (i.apart n m (λ e. ne (sym e)) ln lm)))
-      ]
+      | inl am ↦ ap (disagrees f) (free_at-is lock m (i.silent m am)).held
+      | inr am ↦
+          let told : reckoned (awaited n) lock (up n) n ≡ Some f = awaited_reckoned (awaited n) lock (up n) n an ∙ ap told_mode first ∙ h in
+          let there : reckoned (awaited m) lock (up m) m ≡ lock.held m = table_reckoned (awaited m) lock (up m) m am in
+          disagrees_not f (lock.held m) (subst (λ x. agree (Some f) x ≡ true) there (subst (λ x. agree x (reckoned (awaited m) lock (up m) m) ≡ true) told (i.apart n m (λ e. ne (sym e)) ln lm)))
+    ]
   ]
 
   fits_local : (l : Local) → Fitting live lock awaited local up down → live n ≡ true → awaited n ≡ true → up n ≡ Told l ∷ rest n → FitsLocal lock n l
@@ -290,10 +290,10 @@ module _ (live : ℕ → Bool) (lock : Lock) (awaited : ℕ → Bool) (local : �
       let clear : entry_of lock n ≡ Is Free = i.silent n was in
       let f = fits_local l i ln was first in
       heard_of live lock (entered lock n l) awaited awaits local up rest down n (Told l) i ln first others an ak
-          (entered_own lock n l clear v.1 f ∙ sym (ap (λ w. heard w (Told l)) v.0 ∙ ap (λ b. if b then Is l else Stuck) v.1))
-          (λ m ne. entered_other lock n m l clear f ne)
-          (subst (λ h. covers h ((entered lock n l).held n) ≡ true) (sym (awaited_reckoned (awaited n) lock (Told l ∷ rest n) n was)) (covers_same _ _ (entered_held lock n l clear v.1 f)))
-          (λ m ne. entered_others_held lock n m l clear f ne)
+      (entered_own lock n l clear v.1 f ∙ sym (ap (λ w. heard w (Told l)) v.0 ∙ ap (λ b. if b then Is l else Stuck) v.1))
+      (λ m ne. entered_other lock n m l clear f ne)
+      (subst (λ h. covers h ((entered lock n l).held n) ≡ true) (sym (awaited_reckoned (awaited n) lock (Told l ∷ rest n) n was)) (covers_same _ _ (entered_held lock n l clear v.1 f)))
+      (λ m ne. entered_others_held lock n m l clear f ne)
 
 the_same : {A : Type 0} (x y : A) → Some x ≡ Some y → x ≡ y
 the_same x y e = cc
@@ -325,13 +325,13 @@ module _ (live : ℕ → Bool) (lock now : Lock) (awaited : ℕ → Bool) (local
       let on : reckoned (awaited n) lock (up n) n ≡ lock.held n = table_reckoned (awaited n) lock (up n) n (none n ln) in
       let om : reckoned (awaited m) lock (up m) m ≡ lock.held m = table_reckoned (awaited m) lock (up m) m (none m lm) in
       subst (λ x. agree x (reckoned (awaited m) now (up m) m) ≡ true) (sym rn) (subst (λ x. agree (now.held n) x ≡ true) (sym rm)
-          (elim (same_or n a.node) [
-            | inl e ↦ subst (λ x. agree x (now.held m) ≡ true) (sym (ap now.held e ∙ held)) (subst (λ x. agree (Some a.mode) x ≡ true) (sym (others m (λ x. ne (e ∙ sym x)))) (agrees_not a.mode (lock.held m) (fa m (λ x. ne (e ∙ sym x)))))
-            | inr nn ↦ elim (same_or m a.node) [
-                | inl e ↦ agree_back (now.held m) (now.held n) (subst (λ x. agree x (now.held n) ≡ true) (sym (ap now.held e ∙ held)) (subst (λ x. agree (Some a.mode) x ≡ true) (sym (others n nn)) (agrees_not a.mode (lock.held n) (fa n nn))))
-                | inr nm ↦ subst (λ x. agree x (now.held m) ≡ true) (sym (others n nn)) (subst (λ x. agree (lock.held n) x ≡ true) (sym (others m nm)) (subst (λ x. agree x (lock.held m) ≡ true) on (subst (λ x. agree (reckoned (awaited n) lock (up n) n) x ≡ true) om (ap_old n m ne ln lm))))
-              ]
-          ]))
+      (elim (same_or n a.node) [
+        | inl e ↦ subst (λ x. agree x (now.held m) ≡ true) (sym (ap now.held e ∙ held)) (subst (λ x. agree (Some a.mode) x ≡ true) (sym (others m (λ x. ne (e ∙ sym x)))) (agrees_not a.mode (lock.held m) (fa m (λ x. ne (e ∙ sym x)))))
+        | inr nn ↦ elim (same_or m a.node) [
+          | inl e ↦ agree_back (now.held m) (now.held n) (subst (λ x. agree x (now.held n) ≡ true) (sym (ap now.held e ∙ held)) (subst (λ x. agree (Some a.mode) x ≡ true) (sym (others n nn)) (agrees_not a.mode (lock.held n) (fa n nn))))
+          | inr nm ↦ subst (λ x. agree x (now.held m) ≡ true) (sym (others n nn)) (subst (λ x. agree (lock.held n) x ≡ true) (sym (others m nm)) (subst (λ x. agree x (lock.held m) ≡ true) on (subst (λ x. agree (reckoned (awaited n) lock (up n) n) x ≡ true) om (ap_old n m ne ln lm))))
+        ]
+      ]))
     where
       agrees_not : (f : Mode) (h : Option Mode) → disagrees f h ≡ false → agree (Some f) h ≡ true
       agrees_not f h e = grind arith
@@ -343,7 +343,7 @@ module _ (live : ℕ → Bool) (lock now : Lock) (awaited : ℕ → Bool) (local
       record {
         fits = at_each (λ m. live m ≡ true → Fits (view_of (awaited m) now m) (up m) (more m) (local m)) a.node
             (λ t. fits-move (Is (Held a.mode)) (view_of (awaited a.node) now a.node) [] (up a.node) (a.mode ∷ []) (more a.node) l (local a.node)
-                (sym (ap (λ b. view_of b now a.node) (none a.node la) ∙ h.own)) (sym w.up) (sym (own_more ∙ ap (λ d. d ++ a.mode ∷ []) w.down)) (sym w.same) (refl, refl, h.waits))
+            (sym (ap (λ b. view_of b now a.node) (none a.node la) ∙ h.own)) (sym w.up) (sym (own_more ∙ ap (λ d. d ++ a.mode ∷ []) w.down)) (sym w.same) (refl, refl, h.waits))
             (λ m ne t. fits-move (view_of (awaited m) lock m) (view_of (awaited m) now m) (up m) (up m) (down m) (more m) (local m) (local m) (view_same (awaited m) (awaited m) lock now m refl (h.other m ne)) refl (sym (others_more m ne)) refl (i.fits m t));
         gone = at_each (λ m. live m ≡ false → entry_of now m ≡ Is Free) a.node (λ d. absurd (true_not_false (sym la ∙ d))) (λ m ne d. h.other m ne ∙ i.gone m d);
         silent = at_each (λ m. awaited m ≡ true → entry_of now m ≡ Is Free) a.node (λ t. absurd (true_not_false (sym t ∙ none a.node la))) (λ m ne t. h.other m ne ∙ i.silent m t);
@@ -359,10 +359,10 @@ headed : (live : ℕ → Bool) (lock now : Lock) (awaited : ℕ → Bool) (local
 headed live lock now awaited local up down a P i none h k = elim (truth (live a.node)) [
   | inr dead ↦ let e = i.gone a.node dead in absurd (not_free_waits a.mode (h Free e).waits)
   | inl la ↦ elim (entry_of lock a.node) as (λ v. entry_of lock a.node ≡ v → P) [
-      | Missing ↦ λ e. absurd (never_entry (lock.held a.node) (asks_of a.node lock.conversions) (asks_of a.node lock.requests) e)
-      | Stuck ↦ λ e. absurd (fits_stuck (up a.node) (down a.node) (local a.node) (fits-move (view_of (awaited a.node) lock a.node) Stuck (up a.node) (up a.node) (down a.node) (down a.node) (local a.node) (local a.node) (ap (λ b. view_of b lock a.node) (none a.node la) ∙ e) refl refl refl (i.fits a.node la)))
-      | Is l ↦ λ e. k l la e
-    ] refl
+    | Missing ↦ λ e. absurd (never_entry (lock.held a.node) (asks_of a.node lock.conversions) (asks_of a.node lock.requests) e)
+    | Stuck ↦ λ e. absurd (fits_stuck (up a.node) (down a.node) (local a.node) (fits-move (view_of (awaited a.node) lock a.node) Stuck (up a.node) (up a.node) (down a.node) (down a.node) (local a.node) (local a.node) (ap (λ b. view_of b lock a.node) (none a.node la) ∙ e) refl refl refl (i.fits a.node la)))
+    | Is l ↦ λ e. k l la e
+  ] refl
 ]
 
 module _ (live : ℕ → Bool) (lock : Lock) (awaited : ℕ → Bool) (local : ℕ → Local) (up : ℕ → List Word) (down : ℕ → List Mode) where
@@ -406,9 +406,9 @@ module _ (live : ℕ → Bool) (lock : Lock) (awaited : ℕ → Bool) (local : �
   head_waits now a i none h =
       headed live lock now awaited local up down a (HeadWaits a.node a.mode) i none h
       (λ l la e.
-          let v : view_of (awaited a.node) lock a.node ≡ Is l = ap (λ b. view_of b lock a.node) (none a.node la) ∙ e in
-          let w : Waits (up a.node) (down a.node) (local a.node) l = fits_awaits (up a.node) (down a.node) (local a.node) l a.mode (h l e).waits (fits-move (view_of (awaited a.node) lock a.node) (Is l) (up a.node) (up a.node) (down a.node) (down a.node) (local a.node) (local a.node) v refl refl refl (i.fits a.node la)) in
-          record { lives = la; none = w.down; opens = ap open_in w.same ∙ awaits_open l a.mode (h l e).waits })
+      let v : view_of (awaited a.node) lock a.node ≡ Is l = ap (λ b. view_of b lock a.node) (none a.node la) ∙ e in
+      let w : Waits (up a.node) (down a.node) (local a.node) l = fits_awaits (up a.node) (down a.node) (local a.node) l a.mode (h l e).waits (fits-move (view_of (awaited a.node) lock a.node) (Is l) (up a.node) (up a.node) (down a.node) (down a.node) (local a.node) (local a.node) v refl refl refl (i.fits a.node la)) in
+      record { lives = la; none = w.down; opens = ap open_in w.same ∙ awaits_open l a.mode (h l e).waits })
 
   pub serves_open : (conversions requests : List Ask) (g : Granted) → lock.conversions ≡ conversions → lock.requests ≡ requests → Fitting live lock awaited local up down → ((n : ℕ) → live n ≡ true → awaited n ≡ false) → answer_from lock conversions requests ≡ Some g → HeadWaits g.node g.mode
   serves_open (a ∷ rest) requests g c q i none e =
@@ -433,8 +433,8 @@ module _ (live : ℕ → Bool) (lock : Lock) (awaited : ℕ → Bool) (local : �
     silent = at_each (λ m. awaited m ≡ true → entry_of (died lock d) m ≡ Is Free) d (λ t. died_own lock d) (λ m ne t. died_other lock d m ne ∙ i.silent m t);
     apart = apart-covers alive (λ m. reckoned (awaited m) lock (up m) m) (λ m. reckoned (awaited m) (died lock d) (some m) m)
         (at_each (λ m. alive m ≡ true → covers (reckoned (awaited m) lock (up m) m) (reckoned (awaited m) (died lock d) (some m) m) ≡ true) d
-            (λ t. absurd (true_not_false (sym t ∙ dead)))
-            (λ m ne t. covers_same _ _ (ap (λ u. reckoned (awaited m) (died lock d) u m) (uk m ne t) ∙ held_same (awaited m) m (died_others_held lock d m ne) (up m))))
+        (λ t. absurd (true_not_false (sym t ∙ dead)))
+        (λ m ne t. covers_same _ _ (ap (λ u. reckoned (awaited m) (died lock d) u m) (uk m ne t) ∙ held_same (awaited m) m (died_others_held lock d m ne) (up m))))
         (λ n m ne ln lm. i.apart n m ne (was n ln) (was m lm));
     proper = at_each (λ m. alive m ≡ true → proper (now m) ≡ true) d (λ t. absurd (true_not_false (sym t ∙ dead))) (λ m ne t. ap proper (nk m ne t) ∙ i.proper m (sym (same m ne) ∙ t));
   }
@@ -442,6 +442,7 @@ module _ (live : ℕ → Bool) (lock : Lock) (awaited : ℕ → Bool) (local : �
       held_same : (b : Bool) (m : ℕ) → (died lock d).held m ≡ lock.held m → (u : List Word) → reckoned b (died lock d) u m ≡ reckoned b lock u m
       held_same true m e u = refl
       held_same false m e u = e
+
       was : (n : ℕ) → alive n ≡ true → live n ≡ true
       was n t = elim (same_or n d) [ inl e ↦ absurd (true_not_false (sym t ∙ ap alive e ∙ dead)) | inr ne ↦ sym (same n ne) ∙ t ]
 
@@ -455,9 +456,9 @@ module _ (live : ℕ → Bool) (lock : Lock) (awaited : ℕ → Bool) (local : �
     silent = λ n t. refl;
     apart = apart-covers alive (λ m. reckoned (awaited m) lock (up m) m) (λ m. reckoned (awaits m) new_lock (some m) m)
         (λ n t. ap (λ b. covers (reckoned (awaited n) lock (up n) n) (reckoned b new_lock (some n) n)) (ak n ∙ t)
-            ∙ ap (λ u. covers (reckoned (awaited n) lock (up n) n) (told_mode u)) (sk n t)
-            ∙ ap (λ k. covers (reckoned (awaited n) lock (up n) n) (mode_held k)) (nk n t)
-            ∙ fits_covers (awaited n) lock (up n) (down n) n (local n) (i.fits n (was n t)))
+        ∙ ap (λ u. covers (reckoned (awaited n) lock (up n) n) (told_mode u)) (sk n t)
+        ∙ ap (λ k. covers (reckoned (awaited n) lock (up n) n) (mode_held k)) (nk n t)
+        ∙ fits_covers (awaited n) lock (up n) (down n) n (local n) (i.fits n (was n t)))
         (λ n m ne ln lm. i.apart n m ne (was n ln) (was m lm));
     proper = λ n t. ap proper (nk n t) ∙ i.proper n (was n t);
   }

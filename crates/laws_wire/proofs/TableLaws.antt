@@ -1,26 +1,23 @@
 -- What each call of a master makes of the entries of its table.
-use Rattle.std.proofs.Common.{◌≡◌, ◌≢◌, ℕ, ◌<◌, ◌≤◌, List, [], ◌∷◌, ◌++◌, Bool, true, false, not, ◌==◌, ◌&&◌, Option, Some, None, refl, sym, ap, ◌∙◌, subst, arith, if◌then◌else◌}
-use Rattle.std.specs.Prelude.{is_some, is_none, unwrap_or}
+use Rattle.std.proofs.Common.{◌≡◌, ◌≢◌, ℕ, List, [], ◌∷◌, ◌++◌, Bool, true, false, ◌==◌, Option, Some, None, refl, sym, ap, ◌∙◌, subst, arith, if◌then◌else◌}
+use Rattle.std.specs.Prelude.{unwrap_or}
 use Rattle.std.proofs.lemmas.Bool.Decides.{nat_tests}
-use Rattle.dlm_modes.specs.First.{first_such}
 use Rattle.dlm_modes.proofs.FirstLaws.{first_such_some}
-use Rattle.dlm_modes.specs.Guards.{unless, or_then}
-use Rattle.dlm_modes.specs.Modes.{weaker, rank}
+use Rattle.dlm_modes.specs.Guards.{or_then}
+use Rattle.dlm_modes.specs.Modes.{weaker}
 use Rattle.dlm_modes.specs.Points.{with_at}
 use Rattle.dlm_modes.specs.declared.block.Block.{Block}
 use Rattle.dlm_modes.specs.declared.mode.Mode.{Mode}
 use Rattle.dlm_modes.specs.declared.mode.Mode.TheVariants.{NL}
-use Rattle.dlm_space.specs.Locks.{Lock, mode_of, disagrees, is_against, blocker, blocked, ask_refusal, ask_now_refusal, convert_refusal, release_refusal, asked, asked_now, holding, with_value, converted_value, queued, converted, released, let_go, died, granted_from}
-use Rattle.dlm_space.specs.Queues.{ask_for, asks_of, asks, are_some, without}
+use Rattle.dlm_space.specs.Locks.{Lock, mode_of, disagrees, is_against, blocker, blocked, ask_refusal, ask_now_refusal, convert_refusal, release_refusal, asked, holding, with_value, converted_value, queued, converted, released, died}
+use Rattle.dlm_space.specs.Queues.{ask_for, asks_of, without}
 use Rattle.dlm_space.specs.declared.ask.Ask.{Ask}
-use Rattle.dlm_space.specs.declared.answers.LockError.{LockError}
-use Rattle.dlm_space.specs.declared.answers.LockError.TheVariants.{NotFree, NotHeld, AlreadyAsked}
 use Rattle.dlm_space.proofs.QueueLaws.{asks_of-push, asks_of-without}
 use Rattle.lock_wire.specs.Locals.{mode_held, kept, converting}
 use Rattle.lock_wire.specs.Machine.{unless_refused, asking, asking_now, converts, releases, entered}
 use Rattle.lock_wire.specs.declared.local.Local.{Local}
 use Rattle.lock_wire.specs.declared.local.Local.TheVariants.{Free, Asking, Held, Converting}
-use Rattle.laws_wire.specs.Views.{View, Missing, Stuck, Is, entry, entry_of, proper, Awaits}
+use Rattle.laws_wire.specs.Views.{Stuck, Is, entry, entry_of, proper, Awaits}
 use Rattle.laws_wire.proofs.ViewLaws.{Entries, entry_free, entry_is_held, kept_below}
 
 abbrev free_at : Lock → ℕ → Type 0

@@ -1,17 +1,16 @@
 -- What becomes of each ask and each conversion.
-use Rattle.std.proofs.Common.{◌≡◌, ◌≢◌, ◌⊎◌, inl, inr, ℕ, zero, suc, ◌<◌, ◌≤◌, List, [], ◌∷◌, ◌++◌, Bool, true, false, not, ◌==◌, ◌&&◌, ◌||◌, Option, Some, None, refl, sym, ap, ◌∙◌, subst, arith, if◌then◌else◌}
+use Rattle.std.proofs.Common.{◌≡◌, ◌≢◌, ◌⊎◌, inl, inr, ℕ, zero, suc, ◌<◌, List, [], ◌∷◌, ◌++◌, Bool, true, false, ◌==◌, ◌&&◌, ◌||◌, Option, Some, None, refl, sym, ap, ◌∙◌, subst, arith, if◌then◌else◌}
 use Rattle.std.specs.Prelude.{slice_index_or}
 use Rattle.std.specs.Option.{option_map}
 use Rattle.std.proofs.lemmas.Bool.Decides.{nat_tests}
 use Rattle.dlm_modes.proofs.FirstLaws.{first_such_none}
 use Rattle.dlm_modes.specs.Modes.{weaker}
 use Rattle.dlm_modes.specs.Points.{with_at}
-use Rattle.dlm_modes.specs.declared.block.Block.{Block}
 use Rattle.dlm_modes.specs.declared.mode.Mode.{Mode}
-use Rattle.dlm_space.specs.Locks.{grant_answer, granted}
+use Rattle.dlm_space.specs.Locks.{grant_answer}
 use Rattle.dlm_space.specs.declared.answers.Granted.{Granted}
 use Rattle.dlm_space.specs.declared.answers.Converted.TheVariants.{Now, Queued}
-use Rattle.lock_wire.specs.Locals.{mode_held, kept, converting, converting_answer, not_free, not_convertible, not_releasable}
+use Rattle.lock_wire.specs.Locals.{mode_held, kept, converting, converting_answer}
 use Rattle.lock_wire.specs.Packets.{first, rest}
 use Rattle.lock_wire.specs.Machine
 use Rattle.lock_wire.specs.Machine.{Wire, Ward, with_cell, master_of, lock_at, first_awaited, with_local, sent, with_table, with_ward, written, calls_unless, calls_out, reported_one, reported, received, delivered, told, serve_answer, served_to, served, heir, report_of, without_node, heirs_ward, taken_over, died_of, opened, convert_from, answer_from, asking, converts, releases, convert_writes, release_writes}
@@ -20,14 +19,14 @@ use Rattle.lock_wire.specs.declared.local.Local.TheVariants.{Free, Asking, Held,
 use Rattle.lock_wire.specs.declared.packet.Packet.{Packet}
 use Rattle.lock_wire.specs.declared.packet.Packet.TheVariants as packets
 use Rattle.lock_wire.proofs.Wires.{reported-zero, reported-suc}
-use Rattle.laws_wire.specs.Runs.{Call, Asks, Converts, Releases, Delivers, Serves, Dies, refusal, effect, IsAccepted, AreAccepted, wire_after}
-use Rattle.laws_wire.specs.Views.{Word, View, Is, words, grant_of, grants, view_of, Awaits, Fits, Ticket, Settled, Open, Answered, open_in, ticket_of, covers}
+use Rattle.laws_wire.specs.Runs.{Call, Asks, Converts, Releases, Delivers, Serves, Dies, effect, IsAccepted, AreAccepted, wire_after}
+use Rattle.laws_wire.specs.Views.{Word, View, words, grant_of, grants, view_of, Fits, Ticket, Settled, Open, Answered, open_in, ticket_of, covers}
 use Rattle.laws_wire.specs.Tickets.{converted_to, granted_to, took, lost, ticket_at, ticket_in, answers_open, answers_sent, IsAnswer, AreAnswers}
 use Rattle.laws_wire.specs.Sound.{MastersCover, RunSound}
-use Rattle.laws_wire.specs.Invariants.{Kept, Inv}
+use Rattle.laws_wire.specs.Invariants.{Inv}
 use Rattle.laws_wire.proofs.Steps.{same_or, HeadWaits, serves_open, awaits_open}
 use Rattle.laws_wire.proofs.Links.{grants-push, nothing_more, cell_own, cell_to, cell_from, cell_same}
-use Rattle.laws_wire.proofs.Wires.{own_test, other_word, or_first, or_second, lives, calls_same, clash, dead_not, dead_other, alive_differs, alive_was, over_same, with_reports, serving, self_test, differ_test, grants_if, no_grants, is_master, none_awaited, MayServe, may_serve, live_died}
+use Rattle.laws_wire.proofs.Wires.{own_test, other_word, or_first, or_second, lives, calls_same, clash, alive_differs, alive_was, over_same, with_reports, serving, self_test, differ_test, no_grants, none_awaited, MayServe, may_serve}
 use Rattle.laws_wire.proofs.Made.{runs_made, made_held}
 use Rattle.laws_wire.proofs.RunsKept.{free_is, held_is, released_is, runs_keep, lived, states_are_sound, inv_covers, inv_awaits}
 
@@ -96,12 +95,12 @@ took_granted w a b r g ps n s i lt ln e = elim (same_or b n) [
       ∙ ap (λ l. ticket_of (w.local n s) (grants s l)) (cell_to w.link a b ps (master_of w s) n (λ x. ne (sym x)))
       ∙ sym (ap (λ t. if t then took s (Some (packets.Granted r g)) (state_ticket w n s) else state_ticket w n s) (differ_test b n ne))
   | inl same ↦ elim (same_or s r) [
-      | inr ne ↦
-          ap (λ l. ticket_of l (grants s (with_cell w.link a b ps (master_of w s) n))) (cell_to w.local b r (Held g.mode) n s ne)
-          ∙ ap (ticket_of (w.local n s)) (cell_same (grants s) w.link a b ps (master_of w s) n (sym (ap (grants s) e ∙ other_word r s _ _ ne)))
-          ∙ sym (ap (λ t. if b == n then t else state_ticket w n s) (other_word r s Settled (state_ticket w n s) ne) ∙ either (b == n) (state_ticket w n s))
-      | inl at ↦ here same at
-    ]
+    | inr ne ↦
+        ap (λ l. ticket_of l (grants s (with_cell w.link a b ps (master_of w s) n))) (cell_to w.local b r (Held g.mode) n s ne)
+        ∙ ap (ticket_of (w.local n s)) (cell_same (grants s) w.link a b ps (master_of w s) n (sym (ap (grants s) e ∙ other_word r s _ _ ne)))
+        ∙ sym (ap (λ t. if b == n then t else state_ticket w n s) (other_word r s Settled (state_ticket w n s) ne) ∙ either (b == n) (state_ticket w n s))
+    | inl at ↦ here same at
+  ]
 ]
   where
     here : b ≡ n → s ≡ r → state_ticket (received (record w { link = with_cell w.link a b ps }) a b (Some (packets.Granted r g))) n s ≡ (if b == n then took s (Some (packets.Granted r g)) (state_ticket w n s) else state_ticket w n s)
@@ -159,10 +158,13 @@ served_ticket w r n s (Some g) i below may e =
   where
     m : ℕ
     m = master_of w r
+
     packet : Packet
     packet = packets.Granted r (told (w.ward r).stale g)
+
     waits : HeadWaits w.live (lock_at w r) ((w.ward r).awaited) (λ k. w.local k r) (λ k. words r (w.link k (master_of w r))) (λ k. grants r (w.link (master_of w r) k)) g.node g.mode
     waits = serves_open w.live (lock_at w r) ((w.ward r).awaited) (λ k. w.local k r) (λ k. words r (w.link k (master_of w r))) (λ k. grants r (w.link (master_of w r) k)) (lock_at w r).conversions (lock_at w r).requests g refl refl (i.kept r below).fitting (none_awaited w r i.nodes may.none) e
+
     at_r : state_ticket (serving w r g) n r ≡ (if g.node == n then Answered g.mode else state_ticket w n r)
     at_r =
         ap (λ k. ticket_of (w.local n r) (grants r ((serving w r g).link k n))) (ward_keeps (λ u. u.master) w.ward r _ r refl)
@@ -174,6 +176,7 @@ served_ticket w r n s (Some g) i below may e =
               ap (λ l. ticket_of (w.local n r) (grants r l)) (cell_to w.link m g.node (w.link m g.node ++ packet ∷ []) m n ne)
               ∙ sym (ap (λ t. if t then Answered g.mode else state_ticket w n r) (differ_test g.node n (λ x. ne (sym x))))
         ]
+
     here : s ≡ r → state_ticket (serving w r g) n s ≡ (if r == s then granted_to n s (Some (told (w.ward r).stale g)) (state_ticket w n s) else state_ticket w n s)
     here at = subst (λ k. state_ticket (serving w r g) n k ≡ (if r == k then granted_to n k (Some (told (w.ward r).stale g)) (state_ticket w n k) else state_ticket w n k)) (sym at) (at_r ∙ sym (own_test r _ _))
 
@@ -197,12 +200,12 @@ said_ticket w k r l p n s new none here =
     ∙ elim (same_or s r) [
       | inr ne ↦ ap (λ x. ticket_of x (grants s (w.link (master_of w s) n))) (cell_to w.local k r l n s ne) ∙ sym (ap (λ t. if t && (k == n) then new else state_ticket w n s) (differ_test r s (λ x. ne (sym x))))
       | inl at ↦ elim (same_or n k) [
-          | inr ne ↦ ap (λ x. ticket_of x (grants s (w.link (master_of w s) n))) (cell_from w.local k r l n s ne) ∙ sym (ap (λ t. if t && (k == n) then new else state_ticket w n s) (ap (λ j. r == j) at ∙ self_test r) ∙ ap (λ t. if t then new else state_ticket w n s) (differ_test k n (λ x. ne (sym x))))
-          | inl same ↦
-              ap (λ x. ticket_of x (grants s (w.link (master_of w s) n))) (ap (λ j. with_cell w.local k r l j s) same ∙ ap (with_cell w.local k r l k) at ∙ cell_own w.local k r l)
-              ∙ here (sym at) (sym same)
-              ∙ sym (ap (λ t. if t && (k == n) then new else state_ticket w n s) (ap (λ j. r == j) at ∙ self_test r) ∙ ap (λ t. if t then new else state_ticket w n s) (ap (λ j. k == j) same ∙ self_test k))
-        ]
+        | inr ne ↦ ap (λ x. ticket_of x (grants s (w.link (master_of w s) n))) (cell_from w.local k r l n s ne) ∙ sym (ap (λ t. if t && (k == n) then new else state_ticket w n s) (ap (λ j. r == j) at ∙ self_test r) ∙ ap (λ t. if t then new else state_ticket w n s) (differ_test k n (λ x. ne (sym x))))
+        | inl same ↦
+            ap (λ x. ticket_of x (grants s (w.link (master_of w s) n))) (ap (λ j. with_cell w.local k r l j s) same ∙ ap (with_cell w.local k r l k) at ∙ cell_own w.local k r l)
+            ∙ here (sym at) (sym same)
+            ∙ sym (ap (λ t. if t && (k == n) then new else state_ticket w n s) (ap (λ j. r == j) at ∙ self_test r) ∙ ap (λ t. if t then new else state_ticket w n s) (ap (λ j. k == j) same ∙ self_test k))
+      ]
     ]
 
 if_same : (b : Bool) (x : Ticket) → x ≡ (if b then x else x)
@@ -244,6 +247,7 @@ over_ticket w d n s (Some m) i lt ln e = elim (same_or (master_of w s) d) [
   where
     v : Wire
     v = without_node w d
+
     given_none : master_of w s ≡ d → (a b : ℕ) → grants s (with_reports (without_node w d) d m a b) ≡ []
     given_none same a b = elim ((b == m) && v.live a) as (λ t. grants s (if t then v.link a b ++ report_of v d a ∷ [] else v.link a b) ≡ []) [
       | true ↦ grants-push s (v.link a b) (report_of v d a) ∙ nothing_more (grants s (v.link a b)) ∙ no_grants w d s lt (i.kept s lt) same a b
@@ -260,21 +264,21 @@ moves w (Converts k r to value) n s i a lt ln =
     let f = held_is (w.local k r) (or_second (Machine.node_refusal w k) _ a.accepted) in
     let new = converted_to (answer_from (w.local k r) to) to (state_ticket w n s) in
     said_ticket w k r (convert_from (w.local k r) to) (packets.Convert r to value) n s new (λ j. refl)
-        (λ at same.
-            let was : w.local n s ≡ Held f.0 = ap (λ j. w.local n j) (sym at) ∙ ap (λ j. w.local j r) (sym same) ∙ f.1 in
-            let none = nothing_sent w n s i lt ln (ap open_in was) in
-            let settled : state_ticket w n s ≡ Settled = ap (λ l. ticket_of l (grants s (w.link (master_of w s) n))) was ∙ ap (ticket_of (Held f.0)) none in
-            ap (λ l. ticket_of (convert_from l to) (grants s (w.link (master_of w s) n))) f.1
-            ∙ ap (ticket_of (converting f.0 to)) none
-            ∙ converted_ticket f.0 to
-            ∙ sym (ap (λ l. converted_to (answer_from l to) to (state_ticket w n s)) f.1 ∙ ap (converted_to (Some (converting_answer f.0 to)) to) settled))
+    (λ at same.
+    let was : w.local n s ≡ Held f.0 = ap (λ j. w.local n j) (sym at) ∙ ap (λ j. w.local j r) (sym same) ∙ f.1 in
+    let none = nothing_sent w n s i lt ln (ap open_in was) in
+    let settled : state_ticket w n s ≡ Settled = ap (λ l. ticket_of l (grants s (w.link (master_of w s) n))) was ∙ ap (ticket_of (Held f.0)) none in
+    ap (λ l. ticket_of (convert_from l to) (grants s (w.link (master_of w s) n))) f.1
+    ∙ ap (ticket_of (converting f.0 to)) none
+    ∙ converted_ticket f.0 to
+    ∙ sym (ap (λ l. converted_to (answer_from l to) to (state_ticket w n s)) f.1 ∙ ap (converted_to (Some (converting_answer f.0 to)) to) settled))
 moves w (Releases k r value) n s i a lt ln =
     let f = released_is (w.local k r) (or_second (Machine.node_refusal w k) _ a.accepted) in
     said_ticket w k r Free (packets.Release r value) n s (state_ticket w n s) (λ j. refl)
-        (λ at same.
-            let was : w.local n s ≡ Held f.0 = ap (λ j. w.local n j) (sym at) ∙ ap (λ j. w.local j r) (sym same) ∙ f.1 in
-            let none = nothing_sent w n s i lt ln (ap open_in was) in
-            ap (ticket_of Free) none ∙ sym (ap (λ l. ticket_of l (grants s (w.link (master_of w s) n))) was ∙ ap (ticket_of (Held f.0)) none))
+    (λ at same.
+    let was : w.local n s ≡ Held f.0 = ap (λ j. w.local n j) (sym at) ∙ ap (λ j. w.local j r) (sym same) ∙ f.1 in
+    let none = nothing_sent w n s i lt ln (ap open_in was) in
+    ap (ticket_of Free) none ∙ sym (ap (λ l. ticket_of l (grants s (w.link (master_of w s) n))) was ∙ ap (ticket_of (Held f.0)) none))
     ∙ either ((r == s) && (k == n)) (state_ticket w n s)
 moves w (Delivers x y) n s i a lt ln = took_link w x y (w.link x y) n s i lt (lived w (Delivers x y) n ln) refl
 moves w (Serves r) n s i a lt ln =
@@ -292,6 +296,7 @@ moves w (Dies d) n s i a lt ln =
     live_over : (v : Wire) (d : ℕ) (o : Option ℕ) → (taken_over v d o).live ≡ v.live
     live_over v d None = refl
     live_over v d (Some m) = refl
+
     still_alive : (w : Wire) (d n : ℕ) → (died_of w d).live n ≡ true → (without_node w d).live n ≡ true
     still_alive w d n t = sym (ap (λ f. f n) (live_over (without_node w d) d (heir (without_node w d)))) ∙ t
 

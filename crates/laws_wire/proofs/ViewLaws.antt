@@ -1,8 +1,7 @@
 -- Views: what fits goes on fitting.
-use Rattle.std.proofs.Common.{◌≡◌, ℕ, List, [], ◌∷◌, ◌++◌, Bool, true, false, not, Option, Some, None, refl, sym, ap, ◌∙◌, subst, arith, if◌then◌else◌}
+use Rattle.std.proofs.Common.{◌≡◌, ℕ, List, [], ◌∷◌, ◌++◌, Bool, true, false, Option, Some, None, refl, sym, ap, ◌∙◌, arith, if◌then◌else◌}
 use Rattle.dlm_modes.specs.Modes.{weaker}
 use Rattle.dlm_modes.specs.declared.mode.Mode.{Mode}
-use Rattle.dlm_modes.specs.declared.mode.Mode.TheVariants.{NL}
 use Rattle.dlm_space.specs.Locks.{Lock}
 use Rattle.dlm_space.specs.Orderly.{agree}
 use Rattle.dlm_space.specs.Queues.{asks_of}

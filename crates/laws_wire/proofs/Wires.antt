@@ -1,30 +1,25 @@
 -- Each call keeps the invariant.
-use Rattle.std.proofs.Common.{◌≡◌, ◌≢◌, ◌⊎◌, inl, inr, ℕ, zero, suc, ◌%◌, ◌<◌, ◌≤◌, List, [], ◌∷◌, ◌++◌, get_or, Bool, true, false, not, ◌==◌, ◌&&◌, ◌||◌, nat_lt, Option, Some, None, refl, sym, ap, ◌∙◌, subst, arith, if◌then◌else◌}
+use Rattle.std.proofs.Common.{◌≡◌, ◌≢◌, ◌⊎◌, inl, inr, ℕ, zero, suc, ◌%◌, ◌<◌, ◌≤◌, List, [], ◌∷◌, ◌++◌, Bool, true, false, ◌==◌, ◌&&◌, ◌||◌, nat_lt, Option, Some, None, refl, sym, ap, ◌∙◌, subst, arith, if◌then◌else◌}
 use Rattle.std.specs.Prelude.{slice_index_or}
 use Rattle.std.specs.Option.{option_map}
 use Rattle.std.proofs.lemmas.Bool.Decides.{nat_tests}
 use Rattle.std.proofs.Math.Nat.{mod-lt}
-use Rattle.std.proofs.Math.Path.{fun_ext}
-use Rattle.dlm_modes.specs.First.{first_such}
 use Rattle.dlm_modes.proofs.FirstLaws.{first_such_some, first_such_none}
 use Rattle.dlm_modes.specs.Guards.{unless, or_then}
 use Rattle.dlm_modes.specs.Points.{with_at}
-use Rattle.dlm_modes.specs.Modes.{weaker}
 use Rattle.dlm_modes.specs.declared.block.Block.{Block}
 use Rattle.dlm_modes.specs.declared.mode.Mode.{Mode}
-use Rattle.dlm_space.specs.Locks.{Lock, new_lock, died, all_died, granted, grant_refusal, grant_answer}
+use Rattle.dlm_space.specs.Locks.{Lock, new_lock, died, granted, grant_refusal, grant_answer}
 use Rattle.dlm_space.specs.declared.answers.Granted.{Granted}
-use Rattle.lock_wire.specs.Locals.{kept, converting, not_free, not_convertible, not_releasable}
 use Rattle.lock_wire.specs.Packets.{first, rest}
 use Rattle.lock_wire.specs.Machine
 use Rattle.lock_wire.specs.Machine.{Wire, Ward, with_cell, master_of, lock_at, first_awaited, is_awaited, with_local, sent, with_table, with_ward, written, taken_report, asking, converts, releases, entered, convert_writes, release_writes, named, last_caller, calls_to, calls_out, calls_unless, then_calls, reported_one, reported, received, delivered, told, serve_answer, served_to, served, heir, report_of, without_node, heirs_ward, taken_over, died_of, opened}
-use Rattle.lock_wire.specs.declared.ends.WireEnd.{WireEnd}
 use Rattle.lock_wire.specs.declared.local.Local.{Local}
-use Rattle.lock_wire.specs.declared.local.Local.TheVariants.{Free, Asking, Held, Converting}
+use Rattle.lock_wire.specs.declared.local.Local.TheVariants.{Free, Held}
 use Rattle.lock_wire.specs.declared.packet.Packet.{Packet}
 use Rattle.lock_wire.specs.declared.packet.Packet.TheVariants as packets
 use Rattle.laws_wire.specs.Views.{Word, Asked, Converted, Released, Told, Is, heard, proper, told_word, word_of, words, grant_of, grants}
-use Rattle.laws_wire.specs.Invariants.{Fitting, KeptOf, Kept, Inv}
+use Rattle.laws_wire.specs.Invariants.{KeptOf, Kept, Inv}
 use Rattle.laws_wire.proofs.Steps.{same_or}
 use Rattle.laws_wire.proofs.Links.{words-push, grants-push, words-calls, grants-calls, nothing_more, cell_own, cell_to, cell_from, cell_same}
 use Rattle.lock_wire.proofs.Reports.{state_of}
@@ -77,21 +72,24 @@ kept_said w n r l p word ln h pr own none gives s i = elim (same_or s r) [
   where
     m : ℕ
     m = master_of w r
+
     v : Wire
     v = sent (with_local w n r l) n (master_of w r) p
+
     given : (s a b : ℕ) → grants s (with_cell w.link n (master_of w r) (w.link n (master_of w r) ++ p ∷ []) a b) ≡ grants s (w.link a b)
     given s a b = cell_same (grants s) w.link n (master_of w r) (w.link n (master_of w r) ++ p ∷ []) a b (grants-push s (w.link n (master_of w r)) p ∙ ap (λ x. grants s (w.link n (master_of w r)) ++ x) (gives s) ∙ nothing_more (grants s (w.link n (master_of w r))))
+
     here : Kept w r → Kept (sent (with_local w n r l) n (master_of w r) p) r
     here i =
         same_kept w.live w.live m m ((w.ward r).awaited) ((w.ward r).awaited) (λ k. w.table k r) (λ k. w.table k r) (λ k. with_cell w.local n r l k r) (λ k. with_cell w.local n r l k r) (λ a b. words r (with_cell w.link n m (w.link n m ++ p ∷ []) a b)) (λ a b. words r (with_cell w.link n m (w.link n m ++ p ∷ []) a b)) (λ a b. grants r (w.link a b)) (λ a b. grants r (with_cell w.link n m (w.link n m ++ p ∷ []) a b))
         refl refl refl (λ k. refl) (λ k. refl) (λ a b. refl) (λ a b. given r a b)
         (says w.live m ((w.ward r).awaited) (λ k. w.table k r) (λ k. w.local k r) (λ a b. words r (w.link a b)) (λ a b. grants r (w.link a b))
-            (λ k. with_cell w.local n r l k r) (λ a b. words r (with_cell w.link n m (w.link n m ++ p ∷ []) a b)) n l word i ln h pr
-            (cell_own w.local n r l)
-            (λ j ne. cell_from w.local n r l j r ne)
-            (ap (words r) (cell_own w.link n m (w.link n m ++ p ∷ [])) ∙ words-push r (w.link n m) p ∙ ap (λ x. words r (w.link n m) ++ x) own)
-            (λ j ne. ap (words r) (cell_from w.link n m (w.link n m ++ p ∷ []) j m ne))
-            (λ a b ne. ap (words r) (cell_to w.link n m (w.link n m ++ p ∷ []) a b ne)))
+        (λ k. with_cell w.local n r l k r) (λ a b. words r (with_cell w.link n m (w.link n m ++ p ∷ []) a b)) n l word i ln h pr
+        (cell_own w.local n r l)
+        (λ j ne. cell_from w.local n r l j r ne)
+        (ap (words r) (cell_own w.link n m (w.link n m ++ p ∷ [])) ∙ words-push r (w.link n m) p ∙ ap (λ x. words r (w.link n m) ++ x) own)
+        (λ j ne. ap (words r) (cell_from w.link n m (w.link n m ++ p ∷ []) j m ne))
+        (λ a b ne. ap (words r) (cell_to w.link n m (w.link n m ++ p ∷ []) a b ne)))
 
 -- A master hears a packet.
 
@@ -116,18 +114,18 @@ module _ (w : Wire) (wards : ℕ → Ward) (a r : ℕ) (p : Packet) (ps : List P
       same_kept w.live w.live (master_of w r) ((wards r).master) ((w.ward r).awaited) ((wards r).awaited) (λ k. with_cell w.table (master_of w r) r (f (w.table (master_of w r) r)) k r) (λ k. with_cell w.table (master_of w r) r (f (w.table (master_of w r) r)) k r) (λ n. w.local n r) (λ n. w.local n r) (λ x y. words r (with_cell w.link a (master_of w r) ps x y)) (λ x y. words r (with_cell w.link a (master_of w r) ps x y)) (λ x y. grants r (w.link x y)) (λ x y. grants r (with_cell w.link a (master_of w r) ps x y))
       refl (masters r) (reports r) (λ k. refl) (λ k. refl) (λ x y. refl) (heard_given (master_of w r) e r)
       (step (λ k. with_cell w.table (master_of w r) r (f (w.table (master_of w r) r)) k r) (λ x y. words r (with_cell w.link a (master_of w r) ps x y)) i
-          (ap (words r) e ∙ own ∙ ap (λ q. word ∷ words r q) (sym (cell_own w.link a (master_of w r) ps)))
-          (λ j ne. ap (words r) (cell_from w.link a (master_of w r) ps j (master_of w r) ne))
-          (λ x y ne. ap (words r) (cell_to w.link a (master_of w r) ps x y ne))
-          (cell_own w.table (master_of w r) r (f (w.table (master_of w r) r)))
-          (λ j ne. cell_from w.table (master_of w r) r (f (w.table (master_of w r) r)) j r ne))
+      (ap (words r) e ∙ own ∙ ap (λ q. word ∷ words r q) (sym (cell_own w.link a (master_of w r) ps)))
+      (λ j ne. ap (words r) (cell_from w.link a (master_of w r) ps j (master_of w r) ne))
+      (λ x y ne. ap (words r) (cell_to w.link a (master_of w r) ps x y ne))
+      (cell_own w.table (master_of w r) r (f (w.table (master_of w r) r)))
+      (λ j ne. cell_from w.table (master_of w r) r (f (w.table (master_of w r) r)) j r ne))
 
   pub kept_heard : (b : ℕ) → w.link a b ≡ p ∷ ps → (s : ℕ) → Kept w s → Kept (hearing w wards a b r ps f) s
   kept_heard b e s i = elim (same_or s r) [
     | inl same ↦ let ir : Kept w r = subst (Kept w) same i in elim (same_or b (master_of w r)) [
-        | inl at ↦ subst (λ k. Kept (hearing w wards a b r ps f) k) (sym same) (subst (λ k. w.link a k ≡ p ∷ ps → Kept (hearing w wards a k r ps f) r) (sym at) (λ h. heard_here h ir) e)
-        | inr ne ↦ absurd (cons_nil word (words r ps) (sym own ∙ sym (ap (words r) e) ∙ ir.tells a b ne))
-      ]
+      | inl at ↦ subst (λ k. Kept (hearing w wards a b r ps f) k) (sym same) (subst (λ k. w.link a k ≡ p ∷ ps → Kept (hearing w wards a k r ps f) r) (sym at) (λ h. heard_here h ir) e)
+      | inr ne ↦ absurd (cons_nil word (words r ps) (sym own ∙ sym (ap (words r) e) ∙ ir.tells a b ne))
+    ]
     | inr ne ↦
         same_wire w (hearing w wards a b r ps f) s refl (masters s) (reports s)
         (λ k. cell_to w.table b r (f (w.table b r)) k s ne)
@@ -154,8 +152,8 @@ kept_ask w a b r to ps la e s i =
     let v = hearing w w.ward a b r ps (λ lock. asking lock a to) in
     kept_unless (first_awaited v r) v b r s
     (kept_heard w w.ward a r (packets.Ask r to) ps (Asked to) (λ lock. asking lock a to) (own_test r _ _) (λ k ne. other_word r k _ _ ne) (λ k. refl) (λ k. refl) (λ k. refl)
-        (λ table' told' k first others else_told own other. hears_an_ask w.live (master_of w r) ((w.ward r).awaited) (λ m. w.table m r) (λ n. w.local n r) (λ x y. words r (w.link x y)) (λ x y. grants r (w.link x y)) table' told' a to k la first others else_told own other)
-        b e s i)
+    (λ table' told' k first others else_told own other. hears_an_ask w.live (master_of w r) ((w.ward r).awaited) (λ m. w.table m r) (λ n. w.local n r) (λ x y. words r (w.link x y)) (λ x y. grants r (w.link x y)) table' told' a to k la first others else_told own other)
+    b e s i)
 
 kept_convert : (w : Wire) (a b r : ℕ) (to : Mode) (value : Option Block) (ps : List Packet) → w.live a ≡ true → w.link a b ≡ packets.Convert r to value ∷ ps → (s : ℕ) → Kept w s → Kept (received (record w { link = with_cell w.link a b ps }) a b (Some (packets.Convert r to value))) s
 kept_convert w a b r to value ps la e s i =
@@ -163,8 +161,8 @@ kept_convert w a b r to value ps la e s i =
     let v = hearing w (written w r writes).ward a b r ps (λ lock. converts lock a to value) in
     kept_unless (first_awaited v r) v b r s
     (kept_heard w (written w r writes).ward a r (packets.Convert r to value) ps (Converted to) (λ lock. converts lock a to value) (own_test r _ _) (λ k ne. other_word r k _ _ ne) (λ k. refl) (written_master w r writes) (written_awaited w r writes)
-        (λ table' told' k first others else_told own other. hears_a_conversion w.live (master_of w r) ((w.ward r).awaited) (λ m. w.table m r) (λ n. w.local n r) (λ x y. words r (w.link x y)) (λ x y. grants r (w.link x y)) table' told' a to value k la first others else_told own other)
-        b e s i)
+    (λ table' told' k first others else_told own other. hears_a_conversion w.live (master_of w r) ((w.ward r).awaited) (λ m. w.table m r) (λ n. w.local n r) (λ x y. words r (w.link x y)) (λ x y. grants r (w.link x y)) table' told' a to value k la first others else_told own other)
+    b e s i)
 
 kept_release : (w : Wire) (a b r : ℕ) (value : Option Block) (ps : List Packet) → w.live a ≡ true → w.link a b ≡ packets.Release r value ∷ ps → (s : ℕ) → Kept w s → Kept (received (record w { link = with_cell w.link a b ps }) a b (Some (packets.Release r value))) s
 kept_release w a b r value ps la e s i =
@@ -172,17 +170,17 @@ kept_release w a b r value ps la e s i =
     let v = hearing w (written w r writes).ward a b r ps (λ lock. releases lock a value) in
     kept_unless (first_awaited v r) v b r s
     (kept_heard w (written w r writes).ward a r (packets.Release r value) ps Released (λ lock. releases lock a value) (own_test r _ _) (λ k ne. other_word r k _ _ ne) (λ k. refl) (written_master w r writes) (written_awaited w r writes)
-        (λ table' told' k first others else_told own other. hears_a_release w.live (master_of w r) ((w.ward r).awaited) (λ m. w.table m r) (λ n. w.local n r) (λ x y. words r (w.link x y)) (λ x y. grants r (w.link x y)) table' told' a value k la first others else_told own other)
-        b e s i)
+    (λ table' told' k first others else_told own other. hears_a_release w.live (master_of w r) ((w.ward r).awaited) (λ m. w.table m r) (λ n. w.local n r) (λ x y. words r (w.link x y)) (λ x y. grants r (w.link x y)) table' told' a value k la first others else_told own other)
+    b e s i)
 
 -- A node takes a grant.
 
 kept_granted : (w : Wire) (a b r : ℕ) (g : Granted) (ps : List Packet) → w.link a b ≡ packets.Granted r g ∷ ps → (s : ℕ) → Kept w s → Kept (received (record w { link = with_cell w.link a b ps }) a b (Some (packets.Granted r g))) s
 kept_granted w a b r g ps e s i = elim (same_or s r) [
   | inl same ↦ let ir : Kept w r = subst (Kept w) same i in elim (same_or a (master_of w r)) [
-      | inl at ↦ subst (λ k. Kept (v a) k) (sym same) (subst (λ k. w.link k b ≡ packets.Granted r g ∷ ps → Kept (v k) r) (sym at) (here ir) e)
-      | inr ne ↦ absurd (cons_nil g.mode (grants r ps) (sym (own_test r _ _) ∙ sym (ap (grants r) e) ∙ ir.gives a b ne))
-    ]
+    | inl at ↦ subst (λ k. Kept (v a) k) (sym same) (subst (λ k. w.link k b ≡ packets.Granted r g ∷ ps → Kept (v k) r) (sym at) (here ir) e)
+    | inr ne ↦ absurd (cons_nil g.mode (grants r ps) (sym (own_test r _ _) ∙ sym (ap (grants r) e) ∙ ir.gives a b ne))
+  ]
   | inr ne ↦
       same_wire w (v a) s refl refl refl (λ k. refl) (λ k. cell_to w.local b r (Held g.mode) k s ne)
       (λ x y. cell_same (words s) w.link a b ps x y (sym (ap (words s) e)))
@@ -192,19 +190,21 @@ kept_granted w a b r g ps e s i = elim (same_or s r) [
   where
     v : ℕ → Wire
     v k = with_local (record w { link = with_cell w.link k b ps }) b r (Held g.mode)
+
     m : ℕ
     m = master_of w r
+
     here : Kept w r → w.link (master_of w r) b ≡ packets.Granted r g ∷ ps → Kept (with_local (record w { link = with_cell w.link (master_of w r) b ps }) b r (Held g.mode)) r
     here ir h =
         same_kept w.live w.live m m ((w.ward r).awaited) ((w.ward r).awaited) (λ k. w.table k r) (λ k. w.table k r) (λ k. with_cell w.local b r (Held g.mode) k r) (λ k. with_cell w.local b r (Held g.mode) k r) (λ x y. words r (w.link x y)) (λ x y. words r (with_cell w.link m b ps x y)) (λ x y. grants r (with_cell w.link m b ps x y)) (λ x y. grants r (with_cell w.link m b ps x y))
         refl refl refl (λ k. refl) (λ k. refl) (λ x y. cell_same (words r) w.link m b ps x y (sym (ap (words r) h))) (λ x y. refl)
         (takes w.live m ((w.ward r).awaited) (λ k. w.table k r) (λ k. w.local k r) (λ x y. words r (w.link x y)) (λ x y. grants r (w.link x y))
-            (λ k. with_cell w.local b r (Held g.mode) k r) (λ x y. grants r (with_cell w.link m b ps x y)) b g.mode ir
-            (ap (grants r) h ∙ own_test r _ _ ∙ ap (λ q. g.mode ∷ grants r q) (sym (cell_own w.link m b ps)))
-            (cell_own w.local b r (Held g.mode))
-            (λ j ne. cell_from w.local b r (Held g.mode) j r ne)
-            (λ j ne. ap (grants r) (cell_to w.link m b ps m j ne))
-            (λ x y ne. ap (grants r) (cell_from w.link m b ps x y ne)))
+        (λ k. with_cell w.local b r (Held g.mode) k r) (λ x y. grants r (with_cell w.link m b ps x y)) b g.mode ir
+        (ap (grants r) h ∙ own_test r _ _ ∙ ap (λ q. g.mode ∷ grants r q) (sym (cell_own w.link m b ps)))
+        (cell_own w.local b r (Held g.mode))
+        (λ j ne. cell_from w.local b r (Held g.mode) j r ne)
+        (λ j ne. ap (grants r) (cell_to w.link m b ps m j ne))
+        (λ x y ne. ap (grants r) (cell_from w.link m b ps x y ne)))
 
 -- A node is told of an asker.
 
@@ -304,19 +304,20 @@ stage_some w a b r l la i = elim (same_or b (master_of w r)) [
   where
     m : ℕ
     m = master_of w r
+
     here : Stage w a (master_of w r) (Some l) r → Kept (entering w a (master_of w r) r l) r
     here j =
         same_kept w.live w.live m (master_of (entering w a m r l) r) (((entering w a m r l).ward r).awaited) (((entering w a m r l).ward r).awaited) (λ k. with_cell w.table m r (entered (w.table m r) a l) k r) (λ k. with_cell w.table m r (entered (w.table m r) a l) k r) (λ n. w.local n r) (λ n. w.local n r) (λ x y. words r (w.link x y)) (λ x y. words r (w.link x y)) (λ x y. grants r (w.link x y)) (λ x y. grants r (w.link x y))
         refl (ward_keeps (λ u. u.master) w.ward r _ r refl) refl (λ k. refl) (λ k. refl) (λ x y. refl) (λ x y. refl)
         (hears_a_report w.live m ((w.ward r).awaited) (λ k. w.table k r) (λ n. w.local n r) (with_cell (λ x y. words r (w.link x y)) a m (Told l ∷ words r (w.link a m))) (λ x y. grants r (w.link x y))
-            (((entering w a m r l).ward r).awaited) (λ k. with_cell w.table m r (entered (w.table m r) a l) k r) (λ x y. words r (w.link x y)) a l j la
-            (cell_own (λ x y. words r (w.link x y)) a m (Told l ∷ words r (w.link a m)))
-            (λ k ne. sym (cell_from (λ x y. words r (w.link x y)) a m (Told l ∷ words r (w.link a m)) k m ne))
-            (λ x y ne. sym (cell_to (λ x y. words r (w.link x y)) a m (Told l ∷ words r (w.link a m)) x y ne))
-            (cell_own w.table m r (entered (w.table m r) a l))
-            (λ k ne. cell_from w.table m r (entered (w.table m r) a l) k r ne)
-            (ap (λ (u : Ward). u.awaited a) (own_test r (record (w.ward r) { awaited = with_at (w.ward r).awaited a false }) (w.ward r)) ∙ own_test a false _)
-            (λ k ne. ap (λ (u : Ward). u.awaited k) (own_test r (record (w.ward r) { awaited = with_at (w.ward r).awaited a false }) (w.ward r)) ∙ other_at k a ne))
+        (((entering w a m r l).ward r).awaited) (λ k. with_cell w.table m r (entered (w.table m r) a l) k r) (λ x y. words r (w.link x y)) a l j la
+        (cell_own (λ x y. words r (w.link x y)) a m (Told l ∷ words r (w.link a m)))
+        (λ k ne. sym (cell_from (λ x y. words r (w.link x y)) a m (Told l ∷ words r (w.link a m)) k m ne))
+        (λ x y ne. sym (cell_to (λ x y. words r (w.link x y)) a m (Told l ∷ words r (w.link a m)) x y ne))
+        (cell_own w.table m r (entered (w.table m r) a l))
+        (λ k ne. cell_from w.table m r (entered (w.table m r) a l) k r ne)
+        (ap (λ (u : Ward). u.awaited a) (own_test r (record (w.ward r) { awaited = with_at (w.ward r).awaited a false }) (w.ward r)) ∙ own_test a false _)
+        (λ k ne. ap (λ (u : Ward). u.awaited k) (own_test r (record (w.ward r) { awaited = with_at (w.ward r).awaited a false }) (w.ward r)) ∙ other_at k a ne))
       where
         other_at : (k n : ℕ) → k ≢ n → (if k == n then false else (w.ward r).awaited k) ≡ (w.ward r).awaited k
         other_at k n ne = let e : (k == n) ≡ false = grind (arith, nat_tests) in ap (λ b. if b then false else (w.ward r).awaited k) e
@@ -348,6 +349,7 @@ so_far w a b states (suc k) la le i =
   where
     less : (s k : ℕ) → s < suc k → s ≢ k → s < k
     less s k lt ne = grind (arith, nat_tests)
+
     over : (s k : ℕ) → suc k ≤ s → s ≢ k
     over s k ge e = omega arith
 
@@ -356,14 +358,17 @@ kept_report w a b states ps la e i s below = (so_far v a b states 21 la (omega a
   where
     v : Wire
     v = record w { link = with_cell w.link a b ps }
+
     both : (x y : ℕ) → ((y == b) && (x == a)) ≡ true → (x ≡ a) × (y ≡ b)
     both x y t = (grind (arith, nat_tests), grind (arith, nat_tests))
+
     told : (s x y : ℕ) → with_cell (λ x y. words s (with_cell w.link a b ps x y)) a b (told_word (slice_index_or states s None) (words s (with_cell w.link a b ps a b))) x y ≡ words s (w.link x y)
     told s x y =
         elim ((y == b) && (x == a)) as (λ t. ((y == b) && (x == a)) ≡ t → (if t then told_word (slice_index_or states s None) (words s (with_cell w.link a b ps a b)) else words s (if t then ps else w.link x y)) ≡ words s (w.link x y)) [
           | true ↦ λ t. let h = both x y t in ap (λ q. told_word (slice_index_or states s None) (words s q)) (cell_own w.link a b ps) ∙ sym (ap (words s) e) ∙ ap (λ k. words s (w.link k b)) (sym h.0) ∙ ap (λ k. words s (w.link x k)) (sym h.1)
           | false ↦ λ t. refl
         ] refl
+
     first_stage : (s : ℕ) → s < 21 → Stage (record w { link = with_cell w.link a b ps }) a b (slice_index_or states s None) s
     first_stage s lt =
         same_kept w.live w.live (master_of w s) (master_of w s) ((w.ward s).awaited) ((w.ward s).awaited) (λ m. w.table m s) (λ m. w.table m s) (λ n. w.local n s) (λ n. w.local n s) (λ x y. words s (w.link x y)) (with_cell (λ x y. words s (with_cell w.link a b ps x y)) a b (told_word (slice_index_or states s None) (words s (with_cell w.link a b ps a b)))) (λ x y. grants s (w.link x y)) (λ x y. grants s (with_cell w.link a b ps x y))
@@ -458,19 +463,21 @@ kept_serving w r g i below may e s lt = elim (same_or s r) [
   where
     m : ℕ
     m = master_of w r
+
     says_nothing : (s x y : ℕ) → words s (with_cell w.link (master_of w r) g.node (w.link (master_of w r) g.node ++ packets.Granted r (told (w.ward r).stale g) ∷ []) x y) ≡ words s (w.link x y)
     says_nothing s x y = cell_same (words s) w.link (master_of w r) g.node (w.link (master_of w r) g.node ++ packets.Granted r (told (w.ward r).stale g) ∷ []) x y (words-push s (w.link (master_of w r) g.node) (packets.Granted r (told (w.ward r).stale g)) ∙ nothing_more (words s (w.link (master_of w r) g.node)))
+
     here : Kept (serving w r g) r
     here =
         same_kept w.live w.live m (master_of (serving w r g) r) ((w.ward r).awaited) (((serving w r g).ward r).awaited) (λ k. with_cell w.table m r (granted (lock_at w r)) k r) (λ k. with_cell w.table m r (granted (lock_at w r)) k r) (λ n. w.local n r) (λ n. w.local n r) (λ x y. words r (w.link x y)) (λ x y. words r ((serving w r g).link x y)) (λ x y. grants r ((serving w r g).link x y)) (λ x y. grants r ((serving w r g).link x y))
         refl (ward_keeps (λ u. u.master) w.ward r _ r refl) (ward_keeps (λ u. u.awaited) w.ward r _ r refl) (λ k. refl) (λ k. refl) (says_nothing r) (λ x y. refl)
         (serves_one w.live m ((w.ward r).awaited) (λ k. w.table k r) (λ n. w.local n r) (λ x y. words r (w.link x y)) (λ x y. grants r (w.link x y))
-            (λ k. with_cell w.table m r (granted (lock_at w r)) k r) (λ x y. grants r ((serving w r g).link x y)) g i.nodes (i.kept r below) (none_awaited w r i.nodes may.none) may.grantable e
-            (cell_own w.table m r (granted (lock_at w r)))
-            (λ k ne. cell_from w.table m r (granted (lock_at w r)) k r ne)
-            (ap (grants r) (cell_own w.link m g.node _) ∙ grants-push r (w.link m g.node) (packets.Granted r (told (w.ward r).stale g)) ∙ ap (λ q. grants r (w.link m g.node) ++ q) (own_test r _ _))
-            (λ k ne. ap (grants r) (cell_to w.link m g.node _ m k ne))
-            (λ x y ne. ap (grants r) (cell_from w.link m g.node _ x y ne)))
+        (λ k. with_cell w.table m r (granted (lock_at w r)) k r) (λ x y. grants r ((serving w r g).link x y)) g i.nodes (i.kept r below) (none_awaited w r i.nodes may.none) may.grantable e
+        (cell_own w.table m r (granted (lock_at w r)))
+        (λ k ne. cell_from w.table m r (granted (lock_at w r)) k r ne)
+        (ap (grants r) (cell_own w.link m g.node _) ∙ grants-push r (w.link m g.node) (packets.Granted r (told (w.ward r).stale g)) ∙ ap (λ q. grants r (w.link m g.node) ++ q) (own_test r _ _))
+        (λ k ne. ap (grants r) (cell_to w.link m g.node _ m k ne))
+        (λ x y ne. ap (grants r) (cell_from w.link m g.node _ x y ne)))
 
 kept_answer : (w : Wire) (r : ℕ) (o : Option Granted) → Inv w → r < 21 → MayServe w r → grant_answer (lock_at w r) ≡ o → (s : ℕ) → s < 21 → Kept (served_to w (master_of w r) r (option_map (told (w.ward r).stale) o)) s
 kept_answer w r None i below may e s lt = i.kept s lt
@@ -520,12 +527,12 @@ grants_if s false l = refl
 kept_without : (w : Wire) (d s : ℕ) → Kept w s → ((n : ℕ) → (without_node w d).live n ≡ true → (without_node w d).live (master_of w s) ≡ true) → (master_of w s ≢ d ⊎ ((n : ℕ) → (without_node w d).live n ≡ true → ⊥)) → Kept (without_node w d) s
 kept_without w d s i master which =
     loses w.live (master_of w s) ((w.ward s).awaited) (λ m. w.table m s) (λ n. w.local n s) (λ a b. words s (w.link a b)) (λ a b. grants s (w.link a b))
-        (without_node w d).live (λ m. (without_node w d).table m s) (λ n. (without_node w d).local n s) (λ a b. words s ((without_node w d).link a b)) (λ a b. grants s ((without_node w d).link a b)) d i
-        (dead_not w d) (dead_other w d) master (λ k. refl) (nothing_dies d)
-        (λ n ne. ap (λ b. if b then Free else w.local n s) (differ_test n d ne))
-        (λ a b. words_if s ((a == d) || (b == d)) (w.link a b))
-        (λ a b. grants_if s ((a == d) || (b == d)) (w.link a b))
-        which
+    (without_node w d).live (λ m. (without_node w d).table m s) (λ n. (without_node w d).local n s) (λ a b. words s ((without_node w d).link a b)) (λ a b. grants s ((without_node w d).link a b)) d i
+    (dead_not w d) (dead_other w d) master (λ k. refl) (nothing_dies d)
+    (λ n ne. ap (λ b. if b then Free else w.local n s) (differ_test n d ne))
+    (λ a b. words_if s ((a == d) || (b == d)) (w.link a b))
+    (λ a b. grants_if s ((a == d) || (b == d)) (w.link a b))
+    which
 
 -- what the reports of a resource of another master say
 report_word : (v : Wire) (d n s : ℕ) (o : Option Local) → s < 21 → (if master_of v s == d then Some (v.local n s) else None) ≡ o → word_of s (report_of v d n) [] ≡ told_word o []
@@ -583,27 +590,30 @@ module _ (w : Wire) (d s : ℕ) (lt : s < 21) (i : Kept w s) (e : master_of w s 
       same_kept v.live v.live m (master_of u s) ((u.ward s).awaited) ((u.ward s).awaited) (λ k. v.table k s) (λ k. v.table k s) (λ n. v.local n s) (λ n. v.local n s) (λ a b. words s (u.link a b)) (λ a b. words s (u.link a b)) (λ a b. grants s (u.link a b)) (λ a b. grants s (u.link a b))
       refl (ap (λ b. (if b then heirs_ward v.live m else v.ward s).master) is_master) refl (λ k. refl) (λ k. refl) (λ a b. refl) (λ a b. refl)
       (changes_master w.live (master_of w s) ((w.ward s).awaited) (λ k. w.table k s) (λ n. w.local n s) (λ a b. words s (w.link a b)) (λ a b. grants s (w.link a b))
-          v.live m ((u.ward s).awaited) (λ k. v.table k s) (λ n. v.local n s) (λ a b. words s (u.link a b)) (λ a b. grants s (u.link a b)) i
-          (alive_was w d)
-          (ap v.live e ∙ dead_not w d)
-          lm
-          (λ n. ap (λ b. (if b then heirs_ward v.live m else v.ward s).awaited n) is_master)
-          (λ k t. ap (λ l. died l d) (i.fresh k (alive_was w d k t) (λ x. alive_differs w d k t (x ∙ e))) ∙ nothing_dies d)
-          (λ n t. ap (λ b. if b then Free else w.local n s) (differ_test n d (alive_differs w d n t)))
-          (λ n t. ap (λ b. words s (if b then v.link n m ++ report_of v d n ∷ [] else v.link n m)) (to_new n t)
-              ∙ words-push s (v.link n m) (report_of v d n)
-              ∙ ap (λ q. q ++ word_of s (report_of v d n) []) (no_words n m)
-              ∙ report_word v d n s (Some (v.local n s)) lt (ap (λ b. if b then Some (v.local n s) else None) is_master))
-          (λ n t. given_none m n)
-          (λ a b ne. ap (λ x. words s (if x && v.live a then v.link a b ++ report_of v d a ∷ [] else v.link a b)) (differ_test b m ne) ∙ no_words a b)
-          (λ a b ne. given_none a b))
+      v.live m ((u.ward s).awaited) (λ k. v.table k s) (λ n. v.local n s) (λ a b. words s (u.link a b)) (λ a b. grants s (u.link a b)) i
+      (alive_was w d)
+      (ap v.live e ∙ dead_not w d)
+      lm
+      (λ n. ap (λ b. (if b then heirs_ward v.live m else v.ward s).awaited n) is_master)
+      (λ k t. ap (λ l. died l d) (i.fresh k (alive_was w d k t) (λ x. alive_differs w d k t (x ∙ e))) ∙ nothing_dies d)
+      (λ n t. ap (λ b. if b then Free else w.local n s) (differ_test n d (alive_differs w d n t)))
+      (λ n t. ap (λ b. words s (if b then v.link n m ++ report_of v d n ∷ [] else v.link n m)) (to_new n t)
+      ∙ words-push s (v.link n m) (report_of v d n)
+      ∙ ap (λ q. q ++ word_of s (report_of v d n) []) (no_words n m)
+      ∙ report_word v d n s (Some (v.local n s)) lt (ap (λ b. if b then Some (v.local n s) else None) is_master))
+      (λ n t. given_none m n)
+      (λ a b ne. ap (λ x. words s (if x && v.live a then v.link a b ++ report_of v d a ∷ [] else v.link a b)) (differ_test b m ne) ∙ no_words a b)
+      (λ a b ne. given_none a b))
     where
       v : Wire
       v = without_node w d
+
       u : Wire
       u = taken_over (without_node w d) d (Some m)
+
       to_new : (n : ℕ) → v.live n ≡ true → ((m == m) && v.live n) ≡ true
       to_new n t = ap (λ b. b && v.live n) (self_test m) ∙ t
+
       given_none : (a b : ℕ) → grants s (with_reports (without_node w d) d m a b) ≡ []
       given_none a b = elim ((b == m) && v.live a) as (λ t. grants s (if t then v.link a b ++ report_of v d a ∷ [] else v.link a b) ≡ []) [
         | true ↦ grants-push s (v.link a b) (report_of v d a) ∙ nothing_more (grants s (v.link a b)) ∙ no_grants a b
@@ -643,6 +653,7 @@ kept_opened nodes r le lt = record {
   where
     inside : (if nat_lt r 21 then r % nodes else 16) ≡ r % nodes
     inside = grind (arith, nat_tests)
+
     smaller : nat_lt (r % nodes) nodes ≡ true
     smaller = let h : r % nodes < nodes = mod-lt r (omega (arith, le)) in grind (arith, nat_tests, h)
 

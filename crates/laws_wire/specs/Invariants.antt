@@ -3,7 +3,7 @@ use Rattle.std.specs.Prelude.{◌≡◌, ◌≢◌, ℕ, ◌<◌, Bool, true, fa
 use Rattle.dlm_modes.specs.declared.mode.Mode.{Mode}
 use Rattle.dlm_space.specs.Locks.{Lock, new_lock}
 use Rattle.dlm_space.specs.Orderly.{agree}
-use Rattle.lock_wire.specs.Machine.{Wire, master_of, lock_at}
+use Rattle.lock_wire.specs.Machine.{Wire, master_of}
 use Rattle.lock_wire.specs.declared.local.Local.{Local}
 use Rattle.lock_wire.specs.declared.local.Local.TheVariants.{Free}
 use Rattle.laws_wire.specs.Views.{Word, Is, words, grants, entry_of, view_of, proper, Fits, reckoned}

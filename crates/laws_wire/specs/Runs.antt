@@ -3,7 +3,7 @@ use Rattle.std.specs.Prelude.{◌≡◌, ℕ, ◌<◌, ◌≤◌, List, [], ◌�
 use Rattle.dlm_modes.specs.declared.block.Block.{Block}
 use Rattle.dlm_modes.specs.declared.mode.Mode.{Mode}
 use Rattle.lock_wire.specs.declared.ends.WireEnd.{WireEnd}
-use Rattle.lock_wire.specs.Machine.{Wire, opened, without_node, ask_refusal_at, convert_refusal_at, release_refusal_at, deliver_refusal, serve_refusal, node_refusal, asked_of, converted_of, released_of, delivered, served, died_of}
+use Rattle.lock_wire.specs.Machine.{Wire, opened, ask_refusal_at, convert_refusal_at, release_refusal_at, deliver_refusal, serve_refusal, node_refusal, asked_of, converted_of, released_of, delivered, served, died_of}
 
 pub data Call : Type 0 where
   Asks : (n r : ℕ) (mode : Mode) → Call

@@ -1,6 +1,5 @@
 -- What is said of a spread lock space, over every list of its accepted calls.
-use Rattle.std.specs.Prelude.{◌≡◌, ◌≢◌, ℕ, ◌<◌, Bool, true, false, List, [], ◌∷◌, Option, Some, None}
-use Rattle.dlm_modes.specs.declared.mode.Mode.{Mode}
+use Rattle.std.specs.Prelude.{◌≡◌, ◌≢◌, ℕ, ◌<◌, true, false, List, None}
 use Rattle.dlm_space.specs.Orderly.{agree}
 use Rattle.dlm_space.specs.Sound.{held_in}
 use Rattle.lock_wire.specs.Locals.{mode_held}

@@ -1,8 +1,8 @@
 -- What a list of calls tells of each node's last ask or conversion on a resource.
-use Rattle.std.specs.Prelude.{◌≡◌, ℕ, ◌<◌, ◌==◌, Bool, true, false, ◌&&◌, if◌then◌else◌, List, [], ◌∷◌, Option, Some, None}
+use Rattle.std.specs.Prelude.{◌≡◌, ℕ, ◌<◌, ◌==◌, ◌&&◌, if◌then◌else◌, List, [], ◌∷◌, Option, Some, None}
 use Rattle.dlm_modes.specs.declared.mode.Mode.{Mode}
 use Rattle.dlm_space.specs.declared.answers.Converted.{Converted}
-use Rattle.dlm_space.specs.declared.answers.Converted.TheVariants.{Now, Queued}
+use Rattle.dlm_space.specs.declared.answers.Converted.TheVariants.{Queued}
 use Rattle.dlm_space.specs.declared.answers.Granted.{Granted}
 use Rattle.lock_wire.specs.Machine.{Wire, master_of, answer_from, serve_answer}
 use Rattle.lock_wire.specs.Packets.{first}

@@ -1,11 +1,11 @@
 -- What one call changes of the parts, in the machine's words.
-use Rattle.std.proofs.Common.{◌≡◌, ◌<◌, ◌≤◌, ◌+◌, ◌%◌, nat_lt, ℕ, zero, suc, length, get_or, set, take, drop, replicate, List, [], ◌∷◌, ◌++◌, Bool, true, false, not, ◌==◌, ◌&&◌, Option, Some, None, Result, Ok, Err, OnOk, OnErr, refl, sym, ap, ◌∙◌, subst, arith, if◌then◌else◌}
+use Rattle.std.proofs.Common.{◌≡◌, ◌<◌, ◌≤◌, ◌+◌, ◌%◌, nat_lt, ℕ, zero, suc, length, get_or, set, take, drop, replicate, List, [], ◌∷◌, ◌++◌, Bool, true, false, ◌==◌, Option, None, Result, Ok, Err, OnOk, OnErr, refl, sym, ap, ◌∙◌, subst, arith, if◌then◌else◌}
 use Rattle.std.specs.Result.{result_err}
 use Rattle.std.proofs.lemmas.List.{get_or_default, get_or_past}
 use Rattle.std.proofs.lemmas.Bool.Decides.{nat_tests}
 use Rattle.std.proofs.Math.Path.{fun_ext}
 use Rattle.dlm_modes.specs.Points.{with_at}
-use Rattle.dlm_space.specs.Locks.{Lock, new_lock, new_locks, zero_block, died, all_died}
+use Rattle.dlm_space.specs.Locks.{Lock, new_locks, zero_block, died, all_died}
 use Rattle.dlm_space.specs.Parts.{Part, lock_of, locks_of, no_part}
 use Rattle.dlm_space.specs.declared.answers.LockError.{LockError}
 use Rattle.lock_wire.specs.Machine.{Ward, with_cell, unless_refused, no_ward, first_ward, heirs_ward}
@@ -13,7 +13,7 @@ use Rattle.lock_wire.specs.Parts.{tables_of, locals_of, ward_of, wards_of, no_wa
 use Rattle.lock_wire.specs.declared.local.Local.{Local}
 use Rattle.lock_wire.specs.declared.local.Local.TheVariants.{Free}
 use Rattle.lock_wire.specs.declared.ward.Ward.{Ward as WardPart}
-use Rattle.lock_wire.proofs.Lists.{get_or-replicate, get-set, at-set, row-set, rows-set}
+use Rattle.lock_wire.proofs.Lists.{get_or-replicate, get-set, at-set, row-set}
 
 -- One element after the other.
 
@@ -167,11 +167,12 @@ in_or_past r n a b p q = grind (arith, nat_tests)
 pub wards-new : (wards : List WardPart) (nodes : ℕ) → length wards ≡ 21 → ((r : ℕ) → r < 21 → ward_of (get_or wards r no_ward_part) ≡ record no_ward { master = r % nodes }) → wards_of wards ≡ first_ward nodes
 wards-new wards nodes len h =
     fun_ext (λ r. in_or_past r 21 _ _
-        (λ lt. h r lt ∙ ap (λ k. record no_ward { master = k }) (inside r lt))
-        (λ le. let e : get_or wards r no_ward_part ≡ no_ward_part = get_or_past wards r no_ward_part (omega (arith, len, le)) in ap ward_of e ∙ ap (λ k. record no_ward { master = k }) (outside r le)))
+    (λ lt. h r lt ∙ ap (λ k. record no_ward { master = k }) (inside r lt))
+    (λ le. let e : get_or wards r no_ward_part ≡ no_ward_part = get_or_past wards r no_ward_part (omega (arith, len, le)) in ap ward_of e ∙ ap (λ k. record no_ward { master = k }) (outside r le)))
   where
     inside : (r : ℕ) → r < 21 → r % nodes ≡ (if nat_lt r 21 then r % nodes else 16)
     inside r lt = grind (arith, nat_tests)
+
     outside : (r : ℕ) → 21 ≤ r → 16 ≡ (if nat_lt r 21 then r % nodes else 16)
     outside r le = grind (arith, nat_tests)
 

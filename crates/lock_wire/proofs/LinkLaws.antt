@@ -1,5 +1,5 @@
 -- Links over the list of all posts: one more, the first one off, and those of a node gone.
-use Rattle.std.proofs.Common.{◌≡◌, ◌≢◌, ◌<◌, ◌+◌, ℕ, zero, suc, length, get_or, take, drop, List, [], ◌∷◌, ◌++◌, Bool, true, false, not, ◌==◌, ◌&&◌, ◌||◌, Option, Some, None, refl, sym, ap, ◌∙◌, subst, arith, if◌then◌else◌}
+use Rattle.std.proofs.Common.{◌≡◌, ◌<◌, ◌+◌, ℕ, zero, suc, length, get_or, take, drop, List, [], ◌∷◌, ◌++◌, Bool, true, false, not, ◌==◌, ◌&&◌, ◌||◌, Some, refl, sym, ap, ◌∙◌, subst, arith, if◌then◌else◌}
 use Rattle.std.specs.List.{remove}
 use Rattle.std.specs.Prelude.{filter}
 use Rattle.std.proofs.lemmas.Bool.Decides.{nat_tests}
@@ -86,9 +86,9 @@ both_same m s a b e = (grind (arith, nat_tests), grind (arith, nat_tests))
 pub link-remove : (posts : List Post) (a b i : ℕ) (d : Post) → i < length posts → link_of (take i posts) a b ≡ [] → is_on a b (get_or posts i d) ≡ true → link_of (remove posts i) ≡ with_cell (link_of posts) a b (rest (link_of posts a b))
 link-remove posts a b i d lt none on =
     fun_ext (λ m. fun_ext (λ s.
-        here_or_else ((s == b) && (m == a)) _ _ _
-        (λ t. let same = both_same m s a b t in ap (λ k. link_of (remove posts i) k s) same.0 ∙ ap (link_of (remove posts i) a) same.1 ∙ ap rest (sym (first-packet posts a b i d lt none on)))
-        (λ f. other-packets posts a b i d m s lt on f)))
+    here_or_else ((s == b) && (m == a)) _ _ _
+    (λ t. let same = both_same m s a b t in ap (λ k. link_of (remove posts i) k s) same.0 ∙ ap (link_of (remove posts i) a) same.1 ∙ ap rest (sym (first-packet posts a b i d lt none on)))
+    (λ f. other-packets posts a b i d m s lt on f)))
 
 pub first_is : (posts : List Post) (a b i : ℕ) (p : Post) → IsFirstOn posts a b i → p ≡ get_or posts i p → Some p.packet ≡ first (link_of posts a b)
 first_is posts a b i p f e = ap (λ (q : Post). Some q.packet) e ∙ sym (ap first (first-packet posts a b i p f.below f.none_before (f.on p)))

@@ -1,6 +1,5 @@
 -- Lists as functions of their index, where one element is replaced.
-use Rattle.std.proofs.Common.{◌≡◌, ◌<◌, ◌≤◌, ◌+◌, ◌-◌, nat_lt, ℕ, zero, suc, length, get_or, set, replicate, List, [], ◌∷◌, Bool, true, false, ◌==◌, ◌&&◌, Some, refl, sym, ap, ◌∙◌, arith, if◌then◌else◌}
-use Rattle.std.proofs.lemmas.List.{get_or_default, get_or_past}
+use Rattle.std.proofs.Common.{◌≡◌, ◌<◌, ◌+◌, ◌-◌, nat_lt, ℕ, zero, suc, length, get_or, set, replicate, List, [], ◌∷◌, Bool, true, false, ◌==◌, ◌&&◌, Some, refl, sym, ap, ◌∙◌, arith, if◌then◌else◌}
 use Rattle.std.proofs.lemmas.Bool.Decides.{nat_tests}
 use Rattle.std.proofs.Math.Path.{fun_ext}
 use Rattle.dlm_modes.specs.First.{first_such}
@@ -41,9 +40,9 @@ same_at n i f e = let same : n ≡ i = grind (arith, nat_tests) in ap f same
 pub row-set : {A B : Type 0} (f : A → ℕ → B) (rows : List A) (i : ℕ) (row d : A) (j : ℕ) (v : B) → i < length rows → f row ≡ with_at (f (get_or rows i d)) j v → (λ n. f (get_or (set rows i row) n d)) ≡ with_cell (λ n. f (get_or rows n d)) i j v
 row-set f rows i row d j v lt e =
     fun_ext (λ n. fun_ext (λ s.
-        ap (λ q. f q s) (get-set rows i n row d lt)
-        ∙ if_ap (λ q. f q s) (n == i) row (get_or rows n d)
-        ∙ in_row (n == i) (s == j) v (f row s) (f (get_or rows i d) s) (f (get_or rows n d) s) (ap (λ g. g s) e) (λ t. same_at n i (λ k. f (get_or rows k d) s) t)))
+    ap (λ q. f q s) (get-set rows i n row d lt)
+    ∙ if_ap (λ q. f q s) (n == i) row (get_or rows n d)
+    ∙ in_row (n == i) (s == j) v (f row s) (f (get_or rows i d) s) (f (get_or rows n d) s) (ap (λ g. g s) e) (λ t. same_at n i (λ k. f (get_or rows k d) s) t)))
 
 -- one row
 pub rows-set : {A B : Type 0} (f : A → ℕ → B) (rows : List A) (i : ℕ) (row d : A) (n : ℕ) → i < length rows → f (get_or (set rows i row) n d) ≡ (if n == i then f row else f (get_or rows n d))

@@ -1,5 +1,5 @@
 -- Reports: what they say of each resource.
-use Rattle.std.proofs.Common.{◌≡◌, ◌≢◌, ℕ, zero, suc, ◌<◌, ◌+◌, List, [], ◌∷◌, ◌++◌, length, get_or, Bool, true, false, ◌==◌, ◌&&◌, nat_lt, Option, Some, None, refl, sym, ap, ◌∙◌, subst, arith, if◌then◌else◌}
+use Rattle.std.proofs.Common.{◌≡◌, ℕ, zero, suc, ◌<◌, ◌+◌, List, [], ◌∷◌, ◌++◌, length, get_or, Bool, true, false, ◌==◌, ◌&&◌, nat_lt, Option, Some, None, refl, sym, ap, ◌∙◌, arith, if◌then◌else◌}
 use Rattle.std.proofs.lemmas.Bool.Decides.{nat_tests}
 use Rattle.std.proofs.Math.Path.{fun_ext}
 use Rattle.lock_wire.specs.Machine.{Wire, with_cell, master_of, states_below, report_of, heirs_ward, taken_over}
@@ -72,6 +72,7 @@ none_reported w d m = λ i. record w { link = links i }
   where
     never : (b c : Bool) (n : ℕ) → (b && (c && nat_lt n 0)) ≡ false
     never b c n = grind (arith, nat_tests)
+
     links : w.link ≡ (reports_below w d m 0).link
     links = fun_ext (λ a. fun_ext (λ b. ap (λ t. if t then w.link a b ++ report_of w d a ∷ [] else w.link a b) (sym (never (b == m) (w.live a) a))))
 
@@ -81,6 +82,7 @@ skips_next w v d m k e dead = e ∙ (λ i. record w { link = links i })
   where
     same : (a : ℕ) (b l : Bool) → (a ≡ k → l ≡ false) → (b && (l && nat_lt a k)) ≡ (b && (l && nat_lt a (k + 1)))
     same a b l f = grind (arith, nat_tests, f)
+
     links : (reports_below w d m k).link ≡ (reports_below w d m (k + 1)).link
     links = fun_ext (λ a. fun_ext (λ b. ap (λ t. if t then w.link a b ++ report_of w d a ∷ [] else w.link a b) (same a (b == m) (w.live a) (λ x. ap w.live x ∙ dead))))
 
@@ -93,20 +95,25 @@ reports_next w v u d m k e lives f =
   where
     old : ℕ → ℕ → List Packet
     old = (reports_below w d m k).link
+
     not_yet : (m == m) && (w.live k && nat_lt k k) ≡ false
     not_yet = never (m == m) (w.live k) k
       where
         never : (b c : Bool) (n : ℕ) → (b && (c && nat_lt n n)) ≡ false
         never b c n = grind (arith, nat_tests)
+
     old_is : old k m ≡ w.link k m
     old_is = ap (λ t. if t then w.link k m ++ report_of w d k ∷ [] else w.link k m) not_yet
+
     own : (a b : ℕ) → (if (b == m) && (a == k) then w.link k m ++ report_of w d k ∷ [] else old a b) ≡ (if (b == m) && (a == k) then w.link a b ++ report_of w d a ∷ [] else old a b)
     own a b = elim ((b == m) && (a == k)) as (λ t. ((b == m) && (a == k)) ≡ t → (if t then w.link k m ++ report_of w d k ∷ [] else old a b) ≡ (if t then w.link a b ++ report_of w d a ∷ [] else old a b)) [
       | true ↦ λ t. let x : b ≡ m = grind (arith, nat_tests) in let y : a ≡ k = grind (arith, nat_tests) in ap (λ q. w.link q m ++ report_of w d q ∷ []) (sym y) ∙ ap (λ q. w.link a q ++ report_of w d a ∷ []) (sym x)
       | false ↦ λ t. refl
     ] refl
+
     tests : {A : Type 0} (a b : ℕ) (l : Bool) (x y : A) → (a ≡ k → l ≡ true) → (if (b == m) && (a == k) then x else (if (b == m) && (l && nat_lt a k) then x else y)) ≡ (if (b == m) && (l && nat_lt a (k + 1)) then x else y)
     tests a b l x y g = grind (arith, nat_tests, g)
+
     links : with_cell old k m (old k m ++ report_of w d k ∷ []) ≡ (reports_below w d m (k + 1)).link
     links = fun_ext (λ a. fun_ext (λ b. ap (λ q. with_cell old k m (q ++ report_of w d k ∷ []) a b) old_is ∙ own a b ∙ tests a b (w.live a) (w.link a b ++ report_of w d a ∷ []) (w.link a b) (λ x. ap w.live x ∙ lives)))
 
@@ -115,6 +122,7 @@ all_reported w d m past = λ i. record w { link = links i }
   where
     same : (a : ℕ) (b l : Bool) → (16 < suc a → l ≡ false) → (b && (l && nat_lt a 16)) ≡ (b && l)
     same a b l f = grind (arith, nat_tests, f)
+
     links : (reports_below w d m 16).link ≡ (λ a b. if (b == m) && w.live a then w.link a b ++ report_of w d a ∷ [] else w.link a b)
     links = fun_ext (λ a. fun_ext (λ b. ap (λ t. if t then w.link a b ++ report_of w d a ∷ [] else w.link a b) (same a (b == m) (w.live a) (past a))))
 

@@ -1,5 +1,5 @@
 -- The whole state, where a call changes several parts of it.
-use Rattle.std.proofs.Common.{◌≡◌, ℕ, zero, suc, ◌<◌, ◌≤◌, ◌+◌, List, [], ◌∷◌, ◌++◌, Bool, true, false, not, ◌==◌, nat_lt, ◌&&◌, ◌||◌, Option, Some, None, refl, sym, ap, ◌∙◌, subst, arith, if◌then◌else◌}
+use Rattle.std.proofs.Common.{◌≡◌, ℕ, suc, ◌≤◌, ◌+◌, List, [], ◌∷◌, ◌++◌, Bool, true, false, ◌==◌, nat_lt, ◌&&◌, ◌||◌, Option, Some, None, refl, sym, ap, ◌∙◌, subst, arith, if◌then◌else◌}
 use Rattle.std.proofs.lemmas.Bool.Decides.{nat_tests}
 use Rattle.std.proofs.Math.Path.{fun_ext}
 use Rattle.std.specs.Prelude.{slice_index_or}
@@ -12,7 +12,7 @@ use Rattle.dlm_space.specs.Locks.{Lock, new_locks, all_died, caller, grant_refus
 use Rattle.dlm_space.specs.declared.answers.Granted.{Granted}
 use Rattle.dlm_space.specs.declared.answers.LockError.{LockError}
 use Rattle.dlm_space.specs.Parts.{Part}
-use Rattle.lock_wire.specs.Machine.{Wire, Ward, with_cell, with_local, with_ward, sent, named, caller_of, new_caller, last_caller, calls_to, calls_out, without_node, opened, first_ward, reported, reported_one, master_of, lock_at, first_awaited, rebuilding, serve_refusal, serve_answer, served, served_to, told}
+use Rattle.lock_wire.specs.Machine.{Wire, Ward, with_cell, with_local, sent, named, caller_of, new_caller, last_caller, calls_to, calls_out, without_node, opened, first_ward, reported, reported_one, master_of, lock_at, first_awaited, rebuilding, serve_refusal, serve_answer, served, served_to, told}
 use Rattle.lock_wire.specs.Parts.{Parts, Links, wire_of, locals_of, links_of, wards_of, tables_of, live_of, calls_one, calls_below, granting}
 use Rattle.lock_wire.specs.declared.local.Local.{Local}
 use Rattle.lock_wire.specs.declared.local.Local.TheVariants.{Free}
@@ -46,6 +46,7 @@ same_cell f a b v e = fun_ext (λ x. fun_ext (λ y. at x y ((y == b) && (x == a)
   where
     both : (x y : ℕ) → ((y == b) && (x == a)) ≡ true → (x ≡ a) × (y ≡ b)
     both x y t = (grind (arith, nat_tests), grind (arith, nat_tests))
+
     at : (x y : ℕ) (t : Bool) → ((y == b) && (x == a)) ≡ t → (if t then v else f x y) ≡ f x y
     at x y true t = let s = both x y t in e ∙ ap (λ k. f k b) (sym s.0) ∙ ap (f x) (sym s.1)
     at x y false t = refl
@@ -75,6 +76,7 @@ below_none w m r =
   where
     never : (n : ℕ) → nat_lt n 0 ≡ false
     never n = grind (arith, nat_tests)
+
     none : (t : Bool) (b : ℕ) → (t && nat_lt b 0) ≡ false
     none true b = never b
     none false b = refl
@@ -91,55 +93,71 @@ one_below w m r k =
   where
     v : Wire
     v = calls_below w m r k
+
     mine : Ward
     mine = record (w.ward r) { called = λ n. if nat_lt n k then last_caller (named w m r n) ((w.ward r).called n) else (w.ward r).called n }
+
     self : (n : ℕ) → (n == n) ≡ true
     self n = grind (arith, nat_tests)
+
     ward_is : v.ward r ≡ mine
     ward_is = ap (λ t. if t then mine else w.ward r) (self r)
+
     not_yet : nat_lt k k ≡ false
     not_yet = grind (arith, nat_tests)
+
     called_is : (v.ward r).called k ≡ (w.ward r).called k
     called_is = ap (λ (u : Ward). u.called k) ward_is ∙ ap (λ t. if t then last_caller (named w m r k) ((w.ward r).called k) else (w.ward r).called k) not_yet
+
     named_is : named v m r k ≡ named w m r k
     named_is = ap (λ l. new_caller (caller_of (w.table m r) k) l) called_is
+
     link_is : v.link m k ≡ w.link m k
     link_is = ap (λ t. if (m == m) && t then w.link m k ++ calls_to r (named w m r k) else w.link m k) not_yet ∙ ap (λ t. if t then w.link m k ++ calls_to r (named w m r k) else w.link m k) (last (m == m))
       where
         last : (t : Bool) → (t && false) ≡ false
         last true = refl
         last false = refl
+
     tests : {A : Type 0} (a b : ℕ) (l new : List A) → (if (b == k) && (a == m) then new else (if (a == m) && nat_lt b k then new else l)) ≡ (if (a == m) && nat_lt b (k + 1) then new else l)
     tests a b l new = grind (arith, nat_tests)
+
     own_link : (a b : ℕ) → (if (b == k) && (a == m) then w.link m k ++ calls_to r (named w m r k) else v.link a b) ≡ (if (b == k) && (a == m) then w.link a b ++ calls_to r (named w m r b) else v.link a b)
     own_link a b = elim ((b == k) && (a == m)) as (λ t. ((b == k) && (a == m)) ≡ t → (if t then w.link m k ++ calls_to r (named w m r k) else v.link a b) ≡ (if t then w.link a b ++ calls_to r (named w m r b) else v.link a b)) [
       | true ↦ λ t. let e : b ≡ k = grind (arith, nat_tests) in let f : a ≡ m = grind (arith, nat_tests) in ap (λ x. w.link x k ++ calls_to r (named w m r k)) (sym f) ∙ ap (λ x. w.link a x ++ calls_to r (named w m r x)) (sym e)
       | false ↦ λ t. refl
     ] refl
+
     link_at : (a b : ℕ) → with_cell v.link m k (v.link m k ++ calls_to r (named v m r k)) a b ≡ (calls_below w m r (k + 1)).link a b
     link_at a b =
         ap (λ l. with_cell v.link m k (l ++ calls_to r (named v m r k)) a b) link_is
         ∙ ap (λ o. with_cell v.link m k (w.link m k ++ calls_to r o) a b) named_is
         ∙ own_link a b
         ∙ tests a b (w.link a b) (w.link a b ++ calls_to r (named w m r b))
+
     next : Ward
     next = record (w.ward r) { called = λ n. if nat_lt n (k + 1) then last_caller (named w m r n) ((w.ward r).called n) else (w.ward r).called n }
+
     called_tests : (n : ℕ) (new old : Option ℕ) → (if n == k then new else (if nat_lt n k then new else old)) ≡ (if nat_lt n (k + 1) then new else old)
     called_tests n new old = grind (arith, nat_tests)
+
     own_called : (n : ℕ) → (if n == k then last_caller (named w m r k) ((w.ward r).called k) else mine.called n) ≡ (if n == k then last_caller (named w m r n) ((w.ward r).called n) else mine.called n)
     own_called n = elim (n == k) as (λ t. (n == k) ≡ t → (if t then last_caller (named w m r k) ((w.ward r).called k) else mine.called n) ≡ (if t then last_caller (named w m r n) ((w.ward r).called n) else mine.called n)) [
       | true ↦ λ t. let e : n ≡ k = grind (arith, nat_tests) in ap (λ x. last_caller (named w m r x) ((w.ward r).called x)) (sym e)
       | false ↦ λ t. refl
     ] refl
+
     next_is : record (v.ward r) { called = with_at (v.ward r).called k (last_caller (named v m r k) ((v.ward r).called k)) } ≡ next
     next_is =
         ap (λ (u : Ward). record u { called = with_at u.called k (last_caller (named v m r k) (u.called k)) }) ward_is
         ∙ ap (λ o. record mine { called = with_at mine.called k (last_caller o (mine.called k)) }) named_is
         ∙ ap (λ x. record mine { called = with_at mine.called k (last_caller (named w m r k) x) }) (ap (λ t. if t then last_caller (named w m r k) ((w.ward r).called k) else (w.ward r).called k) not_yet)
         ∙ ap (λ f. record (w.ward r) { called = f }) (fun_ext (λ n. own_called n ∙ called_tests n (last_caller (named w m r n) ((w.ward r).called n)) ((w.ward r).called n)))
+
     twice : {A : Type 0} (t : Bool) (x y z : A) → (if t then x else (if t then y else z)) ≡ (if t then x else z)
     twice true x y z = refl
     twice false x y z = refl
+
     ward_at : (s : ℕ) → with_at v.ward r (record (v.ward r) { called = with_at (v.ward r).called k (last_caller (named v m r k) ((v.ward r).called k)) }) s ≡ with_at w.ward r next s
     ward_at s = ap (λ u. with_at v.ward r u s) next_is ∙ twice (s == r) next mine (w.ward s)
 
@@ -163,10 +181,12 @@ below_end w m r =
       where
         past : (n : ℕ) → nat_lt n 16 ≡ false → 16 ≤ n
         past n f = grind (arith, nat_tests)
+
     in_range : (a b : Bool) (l more : List Packet) → (b ≡ false → more ≡ []) → (if a && b then l ++ more else l) ≡ (if a then l ++ more else l)
     in_range true true l more f = refl
     in_range true false l more f = sym (ap (λ q. l ++ q) (f refl) ∙ nothing_more l)
     in_range false b l more f = refl
+
     all_called : (b : Bool) (o last : Option ℕ) → (b ≡ false → o ≡ None) → (if b then last_caller o last else last) ≡ last_caller o last
     all_called true o last f = refl
     all_called false o last f = sym (ap (λ x. last_caller x last) (f refl))

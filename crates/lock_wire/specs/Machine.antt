@@ -2,7 +2,7 @@
 use Rattle.std.specs.Prelude.{◌≡◌, ℕ, zero, suc, ◌%◌, ◌==◌, nat_lt, Bool, true, false, not, ◌&&◌, ◌||◌, if◌then◌else◌, List, [], ◌∷◌, ◌++◌, slice_index_or, Option, Some, None, is_some, is_none, Result, Ok, Err}
 use Rattle.std.specs.Option.{option_map}
 use Rattle.dlm_modes.specs.First.{first_such}
-use Rattle.dlm_modes.specs.Guards.{unless, or_then, first_of}
+use Rattle.dlm_modes.specs.Guards.{unless, or_then}
 use Rattle.dlm_modes.specs.Modes.{weaker}
 use Rattle.dlm_modes.specs.Points.{with_at}
 use Rattle.dlm_modes.specs.declared.block.Block.{Block}

@@ -1,5 +1,5 @@
 -- Packets, the posts in which they are kept, and the links on which they stand.
-use Rattle.std.specs.Prelude.{ℕ, ◌<◌, ◌==◌, Bool, true, false, ◌&&◌, ◌||◌, if◌then◌else◌, List, [], ◌∷◌, ◌++◌, Option, Some, None}
+use Rattle.std.specs.Prelude.{ℕ, ◌<◌, ◌==◌, Bool, ◌&&◌, ◌||◌, if◌then◌else◌, List, [], ◌∷◌, Option, Some, None}
 use Rattle.lock_wire.specs.declared.packet.Packet.{Packet}
 use Rattle.lock_wire.specs.declared.packet.Packet.TheVariants as packets
 use Rattle.lock_wire.specs.declared.packet.Taken.{Taken}

@@ -1,10 +1,10 @@
 -- What a spread lock space keeps, as plain data, and the machine's state for which it stands.
-use Rattle.std.specs.Prelude.{◌≡◌, ℕ, ◌==◌, ◌&&◌, nat_lt, ◌++◌, ◌∷◌, if◌then◌else◌, ◌<◌, ◌≤◌, length, take, slice_index_or, Bool, true, false, List, [], Option, None}
+use Rattle.std.specs.Prelude.{◌≡◌, ℕ, ◌==◌, ◌&&◌, nat_lt, ◌++◌, ◌∷◌, if◌then◌else◌, ◌<◌, length, take, slice_index_or, Bool, true, false, List, [], None}
 use Rattle.dlm_modes.specs.Points.{with_at}
 use Rattle.dlm_space.specs.Locks.{Lock, granted}
 use Rattle.dlm_space.specs.declared.answers.Granted.{Granted}
 use Rattle.dlm_space.specs.Parts.{Part, locks_of}
-use Rattle.lock_wire.specs.Machine.{Ward, Wire, no_ward, with_cell, with_ward, with_table, sent, named, last_caller, calls_to, report_of}
+use Rattle.lock_wire.specs.Machine.{Ward, Wire, with_cell, with_ward, with_table, sent, named, last_caller, calls_to, report_of}
 use Rattle.lock_wire.specs.Packets.{is_on, link_of}
 use Rattle.lock_wire.specs.declared.links.Post.{Post}
 use Rattle.lock_wire.specs.declared.local.Local.{Local}

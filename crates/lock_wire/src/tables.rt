@@ -130,7 +130,14 @@ impl Tables {
     }
 
     // The node converts. It says whether the value was written to the block.
-    pub fn convert(&mut self, m: NodeId, n: NodeId, res: usize, mode: Mode, value: Option<Block>) -> bool
+    pub fn convert(
+        &mut self,
+        m: NodeId,
+        n: NodeId,
+        res: usize,
+        mode: Mode,
+        value: Option<Block>,
+    ) -> bool
         requires master { m < 16 }
         requires node { n < 16 }
         requires res { res < 21 }

@@ -93,7 +93,13 @@ const CALLED: [(Call, Answer); 14] = [
     (Call::Holds(1, ACK), Answer::Holds(Some(Mode::CR))),
     (Call::Ask(2, ACK, Mode::EX), Answer::Done),
     (Call::Deliver(2, 0), Answer::Took(Taken::Ask)),
-    (Call::Serve(ACK), Answer::Lock(LockError::NotGrantable { holder: 1, mode: Mode::CR })),
+    (
+        Call::Serve(ACK),
+        Answer::Lock(LockError::NotGrantable {
+            holder: 1,
+            mode: Mode::CR,
+        }),
+    ),
     (Call::Deliver(0, 1), Answer::Took(Taken::Called)),
     (Call::Release(1, ACK), Answer::Done),
     (Call::Deliver(1, 0), Answer::Took(Taken::Release)),
@@ -114,7 +120,13 @@ const TAKEN_OVER: [(Call, Answer); 19] = [
     (Call::Deliver(1, 1), Answer::Took(Taken::Report)),
     (Call::Serve(ACK), Answer::Rebuilding(2)),
     (Call::Deliver(2, 1), Answer::Took(Taken::Report)),
-    (Call::Serve(ACK), Answer::Lock(LockError::NotGrantable { holder: 1, mode: Mode::CR })),
+    (
+        Call::Serve(ACK),
+        Answer::Lock(LockError::NotGrantable {
+            holder: 1,
+            mode: Mode::CR,
+        }),
+    ),
     (Call::Release(1, ACK), Answer::Done),
     (Call::Deliver(1, 1), Answer::Took(Taken::Called)),
     (Call::Deliver(1, 1), Answer::Took(Taken::Release)),
@@ -131,13 +143,19 @@ const CONVERTED: [(Call, Answer); 11] = [
     (Call::Deliver(0, 0), Answer::Took(Taken::Ask)),
     (Call::Serve(TOKEN), Answer::Granted(0, Mode::CR, true)),
     (Call::Deliver(0, 0), Answer::Took(Taken::Granted)),
-    (Call::Convert(0, TOKEN, Mode::EX), Answer::Converted(Converted::Queued)),
+    (
+        Call::Convert(0, TOKEN, Mode::EX),
+        Answer::Converted(Converted::Queued),
+    ),
     (Call::Deliver(0, 0), Answer::Took(Taken::Convert)),
     (Call::Serve(TOKEN), Answer::Granted(0, Mode::EX, true)),
     (Call::Holds(0, TOKEN), Answer::Holds(Some(Mode::CR))),
     (Call::Deliver(0, 0), Answer::Took(Taken::Granted)),
     (Call::Holds(0, TOKEN), Answer::Holds(Some(Mode::EX))),
-    (Call::Convert(0, TOKEN, Mode::PW), Answer::Converted(Converted::Now)),
+    (
+        Call::Convert(0, TOKEN, Mode::PW),
+        Answer::Converted(Converted::Now),
+    ),
 ];
 
 // Each refusal, with what makes it.
@@ -148,17 +166,32 @@ const REFUSED: [(Call, Answer); 27] = [
     (Call::Deliver(0, 1), Answer::LinkEmpty(0, 1)),
     (Call::Serve(ACK), Answer::Lock(LockError::NothingAsked)),
     (Call::Release(1, ACK), Answer::Lock(LockError::NotHeld)),
-    (Call::Convert(1, ACK, Mode::CR), Answer::Lock(LockError::NotHeld)),
+    (
+        Call::Convert(1, ACK, Mode::CR),
+        Answer::Lock(LockError::NotHeld),
+    ),
     (Call::Ask(1, ACK, Mode::CW), Answer::Done),
-    (Call::Ask(1, ACK, Mode::CW), Answer::Lock(LockError::NotFree)),
+    (
+        Call::Ask(1, ACK, Mode::CW),
+        Answer::Lock(LockError::NotFree),
+    ),
     (Call::Release(1, ACK), Answer::Waiting),
-    (Call::Convert(1, ACK, Mode::CR), Answer::Lock(LockError::NotHeld)),
+    (
+        Call::Convert(1, ACK, Mode::CR),
+        Answer::Lock(LockError::NotHeld),
+    ),
     (Call::Deliver(1, 0), Answer::Took(Taken::Ask)),
     (Call::Serve(ACK), Answer::Granted(1, Mode::CW, true)),
     (Call::Deliver(0, 1), Answer::Took(Taken::Granted)),
-    (Call::Convert(1, ACK, Mode::PR), Answer::Converted(Converted::Queued)),
+    (
+        Call::Convert(1, ACK, Mode::PR),
+        Answer::Converted(Converted::Queued),
+    ),
     (Call::Holds(1, ACK), Answer::Holds(Some(Mode::CR))),
-    (Call::Convert(1, ACK, Mode::NL), Answer::Lock(LockError::AlreadyAsked)),
+    (
+        Call::Convert(1, ACK, Mode::NL),
+        Answer::Lock(LockError::AlreadyAsked),
+    ),
     (Call::Release(1, ACK), Answer::Waiting),
     (Call::Die(0), Answer::Done),
     (Call::Die(0), Answer::Fenced(0)),
@@ -230,19 +263,34 @@ fn all_nodes_and_resources(rt: HostRuntime) -> Result<(), AllocError> {
         let m = (r % 16) as NodeId;
         for n in 0..16 {
             assert_eq!(rt; apply(&mut wire, Call::Ask(n, r, Mode::CR)), Answer::Done);
-            assert_eq!(rt; apply(&mut wire, Call::Deliver(n, m)), Answer::Took(Taken::Ask));
-            assert_eq!(rt; apply(&mut wire, Call::Serve(r)), Answer::Granted(n, Mode::CR, true));
-            assert_eq!(rt; apply(&mut wire, Call::Deliver(m, n)), Answer::Took(Taken::Granted));
+            assert_eq!(rt;
+                apply(&mut wire, Call::Deliver(n, m)),
+                Answer::Took(Taken::Ask)
+            );
+            assert_eq!(rt;
+                apply(&mut wire, Call::Serve(r)),
+                Answer::Granted(n, Mode::CR, true)
+            );
+            assert_eq!(rt;
+                apply(&mut wire, Call::Deliver(m, n)),
+                Answer::Took(Taken::Granted)
+            );
         }
     }
     for d in 0..15u8 {
         let next = d + 1;
         assert_eq!(rt; apply(&mut wire, Call::Die(d)), Answer::Done);
         for n in next..16 {
-            assert_eq!(rt; apply(&mut wire, Call::Deliver(n, next)), Answer::Took(Taken::Report));
+            assert_eq!(rt;
+                apply(&mut wire, Call::Deliver(n, next)),
+                Answer::Took(Taken::Report)
+            );
         }
         for r in 0..21 {
-            assert_eq!(rt; apply(&mut wire, Call::Holds(15, r)), Answer::Holds(Some(Mode::CR)));
+            assert_eq!(rt;
+                apply(&mut wire, Call::Holds(15, r)),
+                Answer::Holds(Some(Mode::CR))
+            );
             assert_eq!(rt; apply(&mut wire, Call::Holds(d, r)), Answer::Holds(None));
             let none = Answer::Lock(LockError::NothingAsked);
             assert_eq!(rt; apply(&mut wire, Call::Serve(r)), none);
@@ -251,11 +299,23 @@ fn all_nodes_and_resources(rt: HostRuntime) -> Result<(), AllocError> {
     for r in 0..21 {
         let queued = Answer::Converted(Converted::Queued);
         assert_eq!(rt; apply(&mut wire, Call::Convert(15, r, Mode::EX)), queued);
-        assert_eq!(rt; apply(&mut wire, Call::Deliver(15, 15)), Answer::Took(Taken::Convert));
+        assert_eq!(rt;
+            apply(&mut wire, Call::Deliver(15, 15)),
+            Answer::Took(Taken::Convert)
+        );
         // No master saw these blocks written since it took over, but for those that were its own from the start.
-        assert_eq!(rt; apply(&mut wire, Call::Serve(r)), Answer::Granted(15, Mode::EX, r == 15));
-        assert_eq!(rt; apply(&mut wire, Call::Deliver(15, 15)), Answer::Took(Taken::Granted));
-        assert_eq!(rt; apply(&mut wire, Call::Holds(15, r)), Answer::Holds(Some(Mode::EX)));
+        assert_eq!(rt;
+            apply(&mut wire, Call::Serve(r)),
+            Answer::Granted(15, Mode::EX, r == 15)
+        );
+        assert_eq!(rt;
+            apply(&mut wire, Call::Deliver(15, 15)),
+            Answer::Took(Taken::Granted)
+        );
+        assert_eq!(rt;
+            apply(&mut wire, Call::Holds(15, r)),
+            Answer::Holds(Some(Mode::EX))
+        );
     }
     Ok(())
 }

@@ -139,18 +139,18 @@ impl Wire {
         self.known(n)?;
         let from = self.locals.get(n, res).may_convert()?;
         self.room(1)?;
-        self.say(n, res, Local::converting(from, mode), Packet::Convert(res, mode, value));
+        self.say(
+            n,
+            res,
+            Local::converting(from, mode),
+            Packet::Convert(res, mode, value),
+        );
         Ok(converting_answer(from, mode))
     }
 
     /// The node lets go of what it holds, by a Release with the value to the master. `NotHeld` where it
     /// holds and asks nothing, `Refusal::Waiting` where it asks or converts.
-    pub fn release(
-        &mut self,
-        n: NodeId,
-        res: usize,
-        value: Option<Block>,
-    ) -> Result<(), WireEnd>
+    pub fn release(&mut self, n: NodeId, res: usize, value: Option<Block>) -> Result<(), WireEnd>
         requires { res < 21 }
         ensures refused { IsAnswered (release_refusal_at (wire_of self.old) n res) result }
         ensures ok { OnOk result (wire_of self.new ≡ released_of (wire_of self.old) n res value) }
@@ -297,14 +297,7 @@ impl Wire {
         self.tables.ask(m, n, res, mode);
     }
 
-    fn hear_convert(
-        &mut self,
-        m: NodeId,
-        n: NodeId,
-        res: usize,
-        mode: Mode,
-        value: Option<Block>,
-    )
+    fn hear_convert(&mut self, m: NodeId, n: NodeId, res: usize, mode: Mode, value: Option<Block>)
         requires master { m < 16 }
         requires node { n < 16 }
         requires res { res < 21 }

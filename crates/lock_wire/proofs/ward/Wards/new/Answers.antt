@@ -1,4 +1,4 @@
-use Rattle.std.proofs.Common.{arith, ◌<◌, length}
+use Rattle.std.proofs.Common.{arith}
 use Rattle.lock_wire.proofs.Changed.{wards-new}
 use Rattle.lock_wire.proofs.ward.Wards.new.Goals as goal
 

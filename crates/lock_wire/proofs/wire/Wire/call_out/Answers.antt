@@ -1,6 +1,6 @@
-use Rattle.std.proofs.Common.{arith, ◌∙◌}
+use Rattle.std.proofs.Common.{arith}
 use Rattle.lock_wire.specs.Parts.{wire_of}
-use Rattle.lock_wire.proofs.Wires.{below_start, below_next, below_end}
+use Rattle.lock_wire.proofs.Wires.{below_start, below_next}
 use Rattle.lock_wire.proofs.wire.Wire.call_out.Goals as goal
 
 pub loop-n-init : goal.loop-n-init

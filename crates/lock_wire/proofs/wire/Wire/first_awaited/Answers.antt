@@ -1,7 +1,7 @@
 use Rattle.std.proofs.Common.{sym, ◌∙◌, arith}
 use Rattle.dlm_modes.proofs.FirstLaws.{first_such_more, first_such_found, first_such_end}
 use Rattle.lock_wire.specs.Machine.{is_awaited}
-use Rattle.lock_wire.specs.Parts.{wire_of, live_of}
+use Rattle.lock_wire.specs.Parts.{wire_of}
 use Rattle.lock_wire.proofs.wire.Wire.first_awaited.Goals as goal
 
 pub loop-n-preserved : goal.loop-n-preserved

@@ -1,6 +1,6 @@
 use Rattle.std.proofs.Common.{◌≡◌, ◌-◌}
 use Rattle.dlm_modes.specs.First.{first_such}
-use Rattle.lock_wire.specs.Machine.{first_awaited, is_awaited, heir}
+use Rattle.lock_wire.specs.Machine.{heir}
 use Rattle.lock_wire.specs.Parts.{wire_of, live_of}
 use Rattle.lock_wire.proofs.wire.Wire.first_live.Given as goal
 

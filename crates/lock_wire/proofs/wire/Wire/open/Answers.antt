@@ -1,4 +1,4 @@
-use Rattle.std.proofs.Common.{arith, refl, ◌≡◌, ◌∙◌, ap, ℕ, nat_lt}
+use Rattle.std.proofs.Common.{arith, refl, ◌≡◌, ◌∙◌, ap, nat_lt}
 use Rattle.std.proofs.Math.Path.{fun_ext}
 use Rattle.lock_wire.proofs.Lists.{length-set, flag-next}
 use Rattle.lock_wire.proofs.Wires.{opened-is}

@@ -1,5 +1,4 @@
 use Rattle.std.proofs.Common.{arith, false}
-use Rattle.lock_wire.specs.Parts.{Parts}
 use Rattle.lock_wire.proofs.Lists.{at-set}
 use Rattle.lock_wire.proofs.Wires.{without-is}
 use Rattle.lock_wire.proofs.wire.Wire.remove.Goals as goal

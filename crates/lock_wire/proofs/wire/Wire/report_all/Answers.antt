@@ -8,11 +8,11 @@ use Rattle.lock_wire.proofs.wire.Wire.report_all.Goals.{then-is_live, else-is_li
 pub loop-n-preserved : goal.loop-n-preserved
 loop-n-preserved c = elim c.if-is_live.branch [
   | then-is_live w ↦ rw w.self-is (record {
-      wire = reports_next (wire_of c.args.self.now) (wire_of c.loop-n.self) (wire_of w.report.new.self) c.args.dead c.args.m c.loop-n.n c.loop-n.invariant.wire (sym (ap (λ (x : Wire). x.live c.loop-n.n) c.loop-n.invariant.wire) ∙ sym c.is_live.ensures ∙ w.if-is_live.true) w.report.ensures.wire;
-      room = omega (arith, c.loop-n.invariant.room, w.report.ensures.room);
-    })
+    wire = reports_next (wire_of c.args.self.now) (wire_of c.loop-n.self) (wire_of w.report.new.self) c.args.dead c.args.m c.loop-n.n c.loop-n.invariant.wire (sym (ap (λ (x : Wire). x.live c.loop-n.n) c.loop-n.invariant.wire) ∙ sym c.is_live.ensures ∙ w.if-is_live.true) w.report.ensures.wire;
+    room = omega (arith, c.loop-n.invariant.room, w.report.ensures.room);
+  })
   | else-is_live w ↦ rw w.self-is (record {
-      wire = skips_next (wire_of c.args.self.now) (wire_of c.loop-n.self) c.args.dead c.args.m c.loop-n.n c.loop-n.invariant.wire (sym (ap (λ (x : Wire). x.live c.loop-n.n) c.loop-n.invariant.wire) ∙ sym c.is_live.ensures ∙ w.if-is_live.false);
-      room = omega (arith, c.loop-n.invariant.room);
-    })
+    wire = skips_next (wire_of c.args.self.now) (wire_of c.loop-n.self) c.args.dead c.args.m c.loop-n.n c.loop-n.invariant.wire (sym (ap (λ (x : Wire). x.live c.loop-n.n) c.loop-n.invariant.wire) ∙ sym c.is_live.ensures ∙ w.if-is_live.false);
+    room = omega (arith, c.loop-n.invariant.room);
+  })
 ]

@@ -1,4 +1,3 @@
-use Rattle.lock_wire.specs.Parts.{Parts}
 use Rattle.lock_wire.proofs.Wires.{said-is}
 use Rattle.lock_wire.proofs.wire.Wire.say.Goals as goal
 

@@ -1,6 +1,5 @@
-use Rattle.std.proofs.Common.{arith, ap, sym, subst, false, get_or, ◌≡◌, ◌<◌, ◌∙◌, ℕ, suc}
+use Rattle.std.proofs.Common.{arith, ap, false, get_or, ◌≡◌, ◌<◌, ◌∙◌, ℕ, suc}
 use Rattle.std.proofs.lemmas.List.{get_or_past}
-use Rattle.lock_wire.specs.Machine.{Wire}
 use Rattle.lock_wire.specs.Parts.{Parts, wire_of}
 use Rattle.lock_wire.proofs.Wires.{wards-is}
 use Rattle.lock_wire.proofs.Reports.{over-is}
