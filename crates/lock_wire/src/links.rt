@@ -94,7 +94,8 @@ impl Links {
 
     // Takes the first packet off the link, if there is one.
     pub fn take(&mut self, from: NodeId, to: NodeId)
-        ensures taken { links_of self.new ≡ with_cell (links_of self.old) from to (rest (links_of self.old from to)) }
+        ensures taken { let old = links_of self.old in links_of self.new
+            ≡ with_cell old from to (rest (old from to)) }
         ensures room { self.old.room ≤ self.new.room }
     {
         if let Some(at) = first_at(&self.posts, from, to) {
@@ -106,7 +107,8 @@ impl Links {
     pub fn send(&mut self, from: NodeId, to: NodeId, packet: Packet)
         requires room { 0 < self.old.room }
         requires range { IsOfResource packet }
-        ensures sent { links_of self.new ≡ with_cell (links_of self.old) from to (links_of self.old from to ++ packet ∷ []) }
+        ensures sent { let old = links_of self.old in links_of self.new
+            ≡ with_cell old from to (old from to ++ packet ∷ []) }
         ensures room { self.new.room + 1 ≡ self.old.room }
     {
         self.posts.push_reserved(Post { from, to, packet });
@@ -114,7 +116,8 @@ impl Links {
 
     // Drops all packets from the node and to it.
     pub fn drop_node(&mut self, n: NodeId)
-        ensures gone { links_of self.new ≡ (λ a b. if (a == n) || (b == n) then [] else links_of self.old a b) }
+        ensures gone { links_of self.new
+            ≡ (λ a b. if (a == n) || (b == n) then [] else links_of self.old a b) }
         ensures room { self.old.room ≤ self.new.room }
     {
         drop_posts(&mut self.posts, n);

@@ -19,8 +19,8 @@ pub enum Local {
     Converting(Mode, Mode),
 }
 
-// What a node holds that converts from a mode to another that isn't weaker. Between CW and PR that is
-// CR: the mode that is granted to it may be held elsewhere before it hears of it.
+// What a node holds that converts from a mode to another that isn't weaker. Between CW and PR
+// that is CR: the mode that is granted to it may be held elsewhere before it hears of it.
 fn kept(from: Mode, to: Mode) -> Mode
     ensures { result ≡ kept_mode from to }
 {
@@ -52,8 +52,8 @@ impl Local {
         }
     }
 
-    /// The mode that is held, from which to convert. `NotHeld` where nothing is held, `AlreadyAsked`
-    /// where a conversion waits.
+    /// The mode that is held, from which to convert. `NotHeld` where nothing is held,
+    /// `AlreadyAsked` where a conversion waits.
     pub fn may_convert(&self) -> Result<Mode, WireEnd>
         ensures refused { result_err result ≡ not_convertible self.now }
         ensures held { IfOk result (λ mode. self.now ≡ Local.Held mode) }

@@ -42,7 +42,8 @@ fn is_writer(mode: Option<Mode>) -> bool
 fn ask(space: &mut Space, n: NodeId, res: usize, mode: Mode)
     requires node { n < 16 }
     requires res { res < 21 }
-    ensures { locks_of space.new ≡ with_at (locks_of space.old) res (asking (locks_of space.old res) n mode) }
+    ensures { let old = locks_of space.old in locks_of space.new
+        ≡ with_at old res (asking (old res) n mode) }
 {
     let _ = space.ask(n, res, mode);
 }
@@ -50,7 +51,8 @@ fn ask(space: &mut Space, n: NodeId, res: usize, mode: Mode)
 fn ask_now(space: &mut Space, n: NodeId, res: usize, mode: Mode)
     requires node { n < 16 }
     requires res { res < 21 }
-    ensures { locks_of space.new ≡ with_at (locks_of space.old) res (asking_now (locks_of space.old res) n mode) }
+    ensures { let old = locks_of space.old in locks_of space.new
+        ≡ with_at old res (asking_now (old res) n mode) }
 {
     let _ = space.ask_now(n, res, mode);
 }
@@ -60,7 +62,8 @@ fn convert(space: &mut Space, n: NodeId, res: usize, mode: Mode, value: Option<B
     requires node { n < 16 }
     requires res { res < 21 }
     ensures writes { result ≡ convert_writes (locks_of space.old res) n mode value }
-    ensures lock { locks_of space.new ≡ with_at (locks_of space.old) res (converts (locks_of space.old res) n mode value) }
+    ensures lock { let old = locks_of space.old in locks_of space.new
+        ≡ with_at old res (converts (old res) n mode value) }
 {
     let from = space.holder(res, n);
     match space.convert(n, res, mode, value) {
@@ -74,7 +77,8 @@ fn release(space: &mut Space, n: NodeId, res: usize, value: Option<Block>) -> bo
     requires node { n < 16 }
     requires res { res < 21 }
     ensures writes { result ≡ release_writes (locks_of space.old res) n value }
-    ensures lock { locks_of space.new ≡ with_at (locks_of space.old) res (releases (locks_of space.old res) n value) }
+    ensures lock { let old = locks_of space.old in locks_of space.new
+        ≡ with_at old res (releases (old res) n value) }
 {
     let from = space.holder(res, n);
     let _ = space.release(n, res, value);
@@ -85,7 +89,8 @@ fn release(space: &mut Space, n: NodeId, res: usize, value: Option<Block>) -> bo
 fn enter(space: &mut Space, n: NodeId, res: usize, state: Local)
     requires node { n < 16 }
     requires res { res < 21 }
-    ensures { locks_of space.new ≡ with_at (locks_of space.old) res (entered (locks_of space.old res) n state) }
+    ensures { let old = locks_of space.old in locks_of space.new
+        ≡ with_at old res (entered (old res) n state) }
 {
     match state {
         Local::Free => {}
@@ -124,7 +129,8 @@ impl Tables {
         requires master { m < 16 }
         requires node { n < 16 }
         requires res { res < 21 }
-        ensures { tables_of self.new ≡ with_cell (tables_of self.old) m res (asking (tables_of self.old m res) n mode) }
+        ensures { let old = tables_of self.old in tables_of self.new
+            ≡ with_cell old m res (asking (old m res) n mode) }
     {
         ask(&mut self.spaces[m as usize], n, res, mode);
     }
@@ -142,7 +148,8 @@ impl Tables {
         requires node { n < 16 }
         requires res { res < 21 }
         ensures writes { result ≡ convert_writes (tables_of self.old m res) n mode value }
-        ensures table { tables_of self.new ≡ with_cell (tables_of self.old) m res (converts (tables_of self.old m res) n mode value) }
+        ensures table { let old = tables_of self.old in tables_of self.new
+            ≡ with_cell old m res (converts (old m res) n mode value) }
     {
         convert(&mut self.spaces[m as usize], n, res, mode, value)
     }
@@ -153,7 +160,8 @@ impl Tables {
         requires node { n < 16 }
         requires res { res < 21 }
         ensures writes { result ≡ release_writes (tables_of self.old m res) n value }
-        ensures table { tables_of self.new ≡ with_cell (tables_of self.old) m res (releases (tables_of self.old m res) n value) }
+        ensures table { let old = tables_of self.old in tables_of self.new
+            ≡ with_cell old m res (releases (old m res) n value) }
     {
         release(&mut self.spaces[m as usize], n, res, value)
     }
@@ -163,7 +171,8 @@ impl Tables {
         requires master { m < 16 }
         requires node { n < 16 }
         requires res { res < 21 }
-        ensures { tables_of self.new ≡ with_cell (tables_of self.old) m res (entered (tables_of self.old m res) n state) }
+        ensures { let old = tables_of self.old in tables_of self.new
+            ≡ with_cell old m res (entered (old m res) n state) }
     {
         enter(&mut self.spaces[m as usize], n, res, state);
     }
@@ -174,7 +183,8 @@ impl Tables {
         requires res { res < 21 }
         ensures refused { result_err result ≡ grant_refusal (tables_of self.old m res) }
         ensures answer { IfOk result (λ g. Some g ≡ grant_answer (tables_of self.old m res)) }
-        ensures ok { OnOk result (tables_of self.new ≡ with_cell (tables_of self.old) m res (granted (tables_of self.old m res))) }
+        ensures ok { let old = tables_of self.old in OnOk result (tables_of self.new
+            ≡ with_cell old m res (granted (old m res))) }
         ensures err { OnErr result (self.new ≡ self.old) }
     {
         self.spaces[m as usize].grant(res)

@@ -204,7 +204,8 @@ const REFUSED: [(Call, Answer); 27] = [
     (Call::Holds(9, ACK), Answer::Holds(None)),
 ];
 
-// Masters die one after the other, each with a Granted on its way. The ask is served once more by each.
+// Masters die one after the other, each with a Granted on its way. The ask is served once more by
+// each.
 const CHAIN: [(Call, Answer); 27] = [
     (Call::Ask(3, 0, Mode::EX), Answer::Done),
     (Call::Deliver(3, 0), Answer::Took(Taken::Ask)),
@@ -254,8 +255,8 @@ fn scripts(rt: HostRuntime) -> Result<(), AllocError> {
     Ok(())
 }
 
-// Sixteen nodes hold each of the resources. They die in turn, and what the others hold goes with the reports
-// from master to master. The last one converts all.
+// Sixteen nodes hold each of the resources. They die in turn, and what the others hold goes with
+// the reports from master to master. The last one converts all.
 #[test]
 fn all_nodes_and_resources(rt: HostRuntime) -> Result<(), AllocError> {
     let mut wire = Wire::open(rt.alloc(), 16)?;
@@ -303,7 +304,8 @@ fn all_nodes_and_resources(rt: HostRuntime) -> Result<(), AllocError> {
             apply(&mut wire, Call::Deliver(15, 15)),
             Answer::Took(Taken::Convert)
         );
-        // No master saw these blocks written since it took over, but for those that were its own from the start.
+        // No master saw these blocks written since it took over, but for those that were its own
+        // from the start.
         assert_eq!(rt;
             apply(&mut wire, Call::Serve(r)),
             Answer::Granted(15, Mode::EX, r == 15)

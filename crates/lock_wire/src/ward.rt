@@ -68,7 +68,8 @@ fn first(nodes: u8, res: usize) -> Ward
 
 // After the death of a node whose resources another takes over.
 fn after_death(ward: &Ward, dead: NodeId, m: NodeId, live: &[bool; 16]) -> Ward
-    ensures ward { ward_of result ≡ (if ward.now.master == dead then heirs_ward (live_of live.now) m else ward_of ward.now) }
+    ensures ward { ward_of result ≡ (if ward.now.master == dead then heirs_ward (live_of live.now) m
+        else ward_of ward.now) }
     ensures master { result.master ≡ (if ward.now.master == dead then m else ward.now.master) }
 {
     if ward.master == dead {
@@ -134,7 +135,8 @@ impl Wards {
     pub fn take_report(&mut self, res: usize, n: NodeId)
         requires res { res < 21 }
         requires node { n < 16 }
-        ensures { wards_of self.new ≡ with_at (wards_of self.old) res (record (wards_of self.old res) { awaited = with_at (wards_of self.old res).awaited n false }) }
+        ensures { let old = wards_of self.old in wards_of self.new
+            ≡ with_at old res (record (old res) { awaited = with_at (old res).awaited n false }) }
     {
         put_flag(&mut self.wards[res].awaited, n, false);
     }
@@ -142,7 +144,8 @@ impl Wards {
     // Where a value was written to the block it isn't stale any more.
     pub fn freshen(&mut self, res: usize, written: bool)
         requires { res < 21 }
-        ensures { wards_of self.new ≡ with_at (wards_of self.old) res (record (wards_of self.old res) { stale = (wards_of self.old res).stale && not written }) }
+        ensures { let old = wards_of self.old in wards_of self.new
+            ≡ with_at old res (record (old res) { stale = (old res).stale && not written }) }
     {
         self.wards[res].stale = self.wards[res].stale && !written;
     }
@@ -151,7 +154,8 @@ impl Wards {
     pub fn call(&mut self, res: usize, n: NodeId, asker: NodeId)
         requires res { res < 21 }
         requires node { n < 16 }
-        ensures { wards_of self.new ≡ with_at (wards_of self.old) res (record (wards_of self.old res) { called = with_at (wards_of self.old res).called n (Some asker) }) }
+        ensures { let old = wards_of self.old in wards_of self.new
+            ≡ with_at old res (record (old res) { called = with_at (old res).called n (Some asker) }) }
     {
         put_caller(&mut self.wards[res].called, n, Some(asker));
     }
@@ -159,7 +163,8 @@ impl Wards {
     // Who was named to whom is forgotten.
     pub fn forget(&mut self, res: usize)
         requires { res < 21 }
-        ensures { wards_of self.new ≡ with_at (wards_of self.old) res (record (wards_of self.old res) { called = λ n. None }) }
+        ensures { let old = wards_of self.old in wards_of self.new
+            ≡ with_at old res (record (old res) { called = λ n. None }) }
     {
         self.wards[res].called = [None; 16];
     }
@@ -168,7 +173,8 @@ impl Wards {
     pub fn take_over(&mut self, dead: NodeId, m: NodeId, live: &[bool; 16])
         requires dead { dead < 16 }
         requires master { m < 16 }
-        ensures { wards_of self.new ≡ (λ r. if (wards_of self.old r).master == dead then heirs_ward (live_of live.now) m else wards_of self.old r) }
+        ensures { let old = wards_of self.old in wards_of self.new
+            ≡ (λ r. if (old r).master == dead then heirs_ward (live_of live.now) m else old r) }
     {
         for ward in &mut self.wards {
             *ward = after_death(ward, dead, m, live);

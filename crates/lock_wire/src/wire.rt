@@ -18,12 +18,12 @@ use mdc_types::{NodeId, Refusal};
 use std::alloc::{AllocError, Global};
 use std::marker::Model;
 
-/// A lock space spread over up to sixteen nodes: their local states, the links between them, and the
-/// tables of the masters. A call that fails changes nothing.
+/// A lock space spread over up to sixteen nodes: their local states, the links between them, and
+/// the tables of the masters. A call that fails changes nothing.
 ///
-/// Every number of a node may be given: `Refusal::NoNode` names one that isn't below the number of
-/// nodes, and `Refusal::Fenced` a dead one, before all else. Resources are below 21. All memory that a
-/// call needs is taken before it does anything.
+/// Every number of a node may be given: `Refusal::NoNode` names one that isn't below the number
+/// of nodes, and `Refusal::Fenced` a dead one, before all else. Resources are below 21. All
+/// memory that a call needs is taken before it does anything.
 #[derive(Drop)]
 pub struct Wire {
     nodes: u8,
@@ -40,14 +40,21 @@ impl Model for Wire {
 
     ghost Value = { Parts };
 
-    ghost view = { λ w. record { nodes = w.nodes; live = w.live; locals = w.locals; links = w.links; tables = w.tables; wards = w.wards } };
+    ghost view = { λ w. record {
+      nodes = w.nodes;
+      live = w.live;
+      locals = w.locals;
+      links = w.links;
+      tables = w.tables;
+      wards = w.wards;
+    } };
 
     ghost invariant = { λ w. w.nodes ≤ 16 };
 }
 
 impl Wire {
-    /// So many nodes, 1 to 16, all live, with nothing asked or held. The master of a resource is its
-    /// number modulo that of the nodes.
+    /// So many nodes, 1 to 16, all live, with nothing asked or held. The master of a resource is
+    /// its number modulo that of the nodes.
     pub fn open(alloc: Global, nodes: u8) -> Result<Wire, AllocError>
         requires least { 1 ≤ nodes }
         requires most { nodes ≤ 16 }
@@ -99,14 +106,16 @@ impl Wire {
         requires res { res < 21 }
         requires packet { IsOfResource packet }
         requires room { 0 < self.old.links.room }
-        ensures { wire_of self.new ≡ sent (with_local (wire_of self.old) n res state) n (master_of (wire_of self.old) res) packet }
+        ensures { let old = wire_of self.old in wire_of self.new
+            ≡ sent (with_local old n res state) n (master_of old res) packet }
     {
         self.locals.set(n, res, state);
         let master = self.wards.master(res);
         self.links.send(n, master, packet);
     }
 
-    /// The node asks for the mode, by an Ask to the master. `NotFree` where its local state isn't free.
+    /// The node asks for the mode, by an Ask to the master. `NotFree` where its local state isn't
+    /// free.
     pub fn ask(&mut self, n: NodeId, res: usize, mode: Mode) -> Result<(), WireEnd>
         requires { res < 21 }
         ensures refused { IsAnswered (ask_refusal_at (wire_of self.old) n res) result }
@@ -120,9 +129,9 @@ impl Wire {
         Ok(())
     }
 
-    /// The node converts what it holds to the mode, by a Convert with the value to the master. A weaker
-    /// mode, or the same, is held at once. `NotHeld` where it holds nothing, `AlreadyAsked` where a
-    /// conversion of it waits.
+    /// The node converts what it holds to the mode, by a Convert with the value to the master. A
+    /// weaker mode, or the same, is held at once. `NotHeld` where it holds nothing,
+    /// `AlreadyAsked` where a conversion of it waits.
     pub fn convert(
         &mut self,
         n: NodeId,
@@ -148,8 +157,8 @@ impl Wire {
         Ok(converting_answer(from, mode))
     }
 
-    /// The node lets go of what it holds, by a Release with the value to the master. `NotHeld` where it
-    /// holds and asks nothing, `Refusal::Waiting` where it asks or converts.
+    /// The node lets go of what it holds, by a Release with the value to the master. `NotHeld`
+    /// where it holds and asks nothing, `Refusal::Waiting` where it asks or converts.
     pub fn release(&mut self, n: NodeId, res: usize, value: Option<Block>) -> Result<(), WireEnd>
         requires { res < 21 }
         ensures refused { IsAnswered (release_refusal_at (wire_of self.old) n res) result }
@@ -192,8 +201,8 @@ impl Wire {
         None
     }
 
-    // Whom the master is to name to the node: the asker at the head, where that disagrees with what the
-    // node holds, and wasn't the one named last.
+    // Whom the master is to name to the node: the asker at the head, where that disagrees with
+    // what the node holds, and wasn't the one named last.
     fn named(&self, m: NodeId, res: usize, n: NodeId) -> Option<NodeId>
         requires master { m < 16 }
         requires res { res < 21 }
@@ -252,7 +261,8 @@ impl Wire {
         requires master { m < 16 }
         requires node { n < 16 }
         requires res { res < 21 }
-        ensures wire { wire_of self.new ≡ taken_report (with_table (wire_of self.old) m res (entered ((wire_of self.old).table m res) n state)) res n }
+        ensures wire { let old = wire_of self.old in wire_of self.new
+            ≡ taken_report (with_table old m res (entered (old.table m res) n state)) res n }
         ensures room { self.new.links ≡ self.old.links }
     {
         self.tables.enter(m, n, res, state);
@@ -291,7 +301,8 @@ impl Wire {
         requires master { m < 16 }
         requires node { n < 16 }
         requires res { res < 21 }
-        ensures wire { wire_of self.new ≡ with_table (wire_of self.old) m res (asking ((wire_of self.old).table m res) n mode) }
+        ensures wire { let old = wire_of self.old in wire_of self.new
+            ≡ with_table old m res (asking (old.table m res) n mode) }
         ensures room { self.new.links ≡ self.old.links }
     {
         self.tables.ask(m, n, res, mode);
@@ -302,7 +313,8 @@ impl Wire {
         requires node { n < 16 }
         requires res { res < 21 }
         ensures wire { let old = wire_of self.old in let lock = old.table m res in wire_of self.new
-            ≡ with_table (written old res (convert_writes lock n mode value)) m res (converts lock n mode value) }
+            ≡ with_table (written old res (convert_writes lock n mode value)) m res
+            (converts lock n mode value) }
         ensures room { self.new.links ≡ self.old.links }
     {
         let writes = self.tables.convert(m, n, res, mode, value);
@@ -357,17 +369,18 @@ impl Wire {
 
     // The first packet is off the link.
     fn take_off(&mut self, from: NodeId, to: NodeId)
-        ensures wire { let old = wire_of self.old in wire_of self.new ≡ record old { link = with_cell old.link from to (rest (old.link from to)) } }
+        ensures wire { let old = wire_of self.old in wire_of self.new
+            ≡ record old { link = with_cell old.link from to (rest (old.link from to)) } }
         ensures room { self.old.links.room ≤ self.new.links.room }
     {
         self.links.take(from, to);
     }
 
-    /// The second node takes the first packet on the link from the first node, and says its kind. A
-    /// master makes the call of an Ask, a Convert or a Release on its table, enters what a Report says,
-    /// and names a new asker to the holders in its way; a node holds what a Granted gives it. After
-    /// NoNode and Fenced of the first node and then of the second, `Refusal::LinkEmpty` where the link
-    /// has no packet.
+    /// The second node takes the first packet on the link from the first node, and says its kind.
+    /// A master makes the call of an Ask, a Convert or a Release on its table, enters what a
+    /// Report says, and names a new asker to the holders in its way; a node holds what a Granted
+    /// gives it. After NoNode and Fenced of the first node and then of the second,
+    /// `Refusal::LinkEmpty` where the link has no packet.
     pub fn deliver(&mut self, from: NodeId, to: NodeId) -> Result<Taken, WireEnd>
         ensures refused { IsAnswered (deliver_refusal (wire_of self.old) from to) result }
         ensures kind { IfOk result (λ k. Some k ≡ option_map kind_of (first ((wire_of self.old).link from to))) }
@@ -391,7 +404,8 @@ impl Wire {
         requires res { res < 21 }
         requires room { 0 < self.old.links.room }
         ensures refused { result_err result ≡ grant_refusal ((wire_of self.old).table m res) }
-        ensures answer { IfOk result (λ g. Some g ≡ option_map (told ((wire_of self.old).ward res).stale) (grant_answer ((wire_of self.old).table m res))) }
+        ensures answer { let old = wire_of self.old in IfOk result (λ g. Some g
+            ≡ option_map (told (old.ward res).stale) (grant_answer (old.table m res))) }
         ensures ok { IfOk result (λ g. wire_of self.new ≡ granting (wire_of self.old) m res g) }
         ensures err { OnErr result (wire_of self.new ≡ wire_of self.old) }
         ensures room { self.old.links.room ≤ self.new.links.room + 1 }
@@ -406,11 +420,12 @@ impl Wire {
         Ok(told)
     }
 
-    /// The master of the resource serves the head of its queues, sends a Granted to it, and names the
-    /// next asker to the holders in its way. `Refusal::NotUp` where the master is dead, as all nodes
-    /// then are; `Refusal::Rebuilding` with the least live node whose report it hasn't taken; then
-    /// `NothingAsked` and `NotGrantable` as `Space::grant`. The block is told as valid only where the
-    /// table has it so and, after a change of masters, a holder of PW or EX wrote it since.
+    /// The master of the resource serves the head of its queues, sends a Granted to it, and names
+    /// the next asker to the holders in its way. `Refusal::NotUp` where the master is dead, as
+    /// all nodes then are; `Refusal::Rebuilding` with the least live node whose report it hasn't
+    /// taken; then `NothingAsked` and `NotGrantable` as `Space::grant`. The block is told as
+    /// valid only where the table has it so and, after a change of masters, a holder of PW or EX
+    /// wrote it since.
     pub fn serve(&mut self, res: usize) -> Result<Granted, WireEnd>
         requires { res < 21 }
         ensures refused { IsAnswered (serve_refusal (wire_of self.old) res) result }
@@ -519,9 +534,9 @@ impl Wire {
         self.wards.take_over(dead, m, &self.live);
     }
 
-    /// The node dies. The packets on its links go, and each master drops what it held and asked. The
-    /// least live node becomes the master of its resources, with empty tables and blocks that aren't
-    /// valid, and each live node, that one too, reports its local states of these to it.
+    /// The node dies. The packets on its links go, and each master drops what it held and asked.
+    /// The least live node becomes the master of its resources, with empty tables and blocks that
+    /// aren't valid, and each live node, that one too, reports its local states of these to it.
     pub fn die(&mut self, n: NodeId) -> Result<(), WireEnd>
         ensures refused { IsAnswered (node_refusal (wire_of self.old) n) result }
         ensures ok { OnOk result (wire_of self.new ≡ died_of (wire_of self.old) n) }
@@ -536,8 +551,8 @@ impl Wire {
         Ok(())
     }
 
-    /// What the node holds: the local mode, of a conversion that waits the one from which it goes. None
-    /// where it is dead or there is no such node.
+    /// What the node holds: the local mode, of a conversion that waits the one from which it
+    /// goes. None where it is dead or there is no such node.
     pub fn holds(&self, n: NodeId, res: usize) -> Option<Mode>
         requires { res < 21 }
         ensures { result ≡ holds_of (wire_of self.now) n res }
