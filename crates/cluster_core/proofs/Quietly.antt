@@ -4,7 +4,7 @@ use Rattle.mdc_types.specs.declared.events.Event.{Event}
 use Rattle.mdc_types.specs.declared.events.Event.TheVariants as events
 use Rattle.mdc_types.specs.declared.outcomes.Outcome.{Outcome}
 use Rattle.mdc_types.specs.declared.outcomes.Outcome.TheVariants.{Done, Events, Broken, Whole}
-use Rattle.dlm_space.specs.Queues.{Ask}
+use Rattle.dlm_space.specs.declared.ask.Ask.{Ask}
 use Rattle.resync_worker.specs.declared.buffer.Buffer.{Buffer}
 use Rattle.cluster_model.specs.State.{Core}
 use Rattle.cluster_model.specs.Table.{refusal}

@@ -62,6 +62,20 @@ impl<L: LegDev> Model for World<L> {
     ghost invariant = { λ w. Reachable (seen_of L.contents L.size L.faults L.plan w.opening w.core w.legs.items w.trace.items (vec_capacity w.trace - vec_len w.trace)) };
 }
 
+fn node_state(core: &CoreState, n: NodeId) -> NodeState
+    requires { n < 16 }
+    ensures { result ≡ get_or core.now.states n Out }
+{
+    core.states[n as usize]
+}
+
+fn view(core: &CoreState, n: NodeId) -> &View
+    requires { n < 16 }
+    ensures { result.now ≡ get_or core.now.views n no_parts }
+{
+    &core.views[n as usize]
+}
+
 impl<L: LegDev> World<L> {
     /// The world at an opening, over legs that have what the opening says where they tell their
     /// contents. `Err` is want of memory, and hands both back.
@@ -112,7 +126,7 @@ impl<L: LegDev> World<L> {
         requires { n < 16 }
         ensures { result ≡ get_or self.now.kept.states n Out }
     {
-        self.core.states[n as usize]
+        node_state(&self.core, n)
     }
 
     /// The node's view of the legs.
@@ -120,7 +134,7 @@ impl<L: LegDev> World<L> {
         requires { n < 16 }
         ensures { result.now ≡ get_or self.now.kept.views n no_parts }
     {
-        &self.core.views[n as usize]
+        view(&self.core, n)
     }
 
     /// The node's bitmap.
