@@ -1,10 +1,10 @@
 -- Who is granted a lock, and that it is told.
-use Rattle.std.proofs.Common.{◌≡◌, ◌⊎◌, inl, inr, ◌<◌, ◌≤◌, ℕ, Bool, true, false, List, [], ◌∷◌, Option, Some, None, refl, sym, ap, ◌∙◌, arith, ◌==◌}
+use Rattle.std.proofs.Common.{◌≡◌, ◌⊎◌, inl, inr, ◌<◌, ◌≤◌, ℕ, Bool, true, false, List, [], ◌∷◌, Option, Some, None, refl, sym, ap, ◌∙◌, arith}
 use Rattle.std.specs.Option.{option_map}
 use Rattle.std.proofs.lemmas.Bool.Decides.{nat_tests}
 use Rattle.dlm_modes.specs.declared.mode.Mode.{Mode}
 use Rattle.dlm_modes.specs.declared.mode.Mode.TheVariants.{NL, CR, CW, PR, PW, EX}
-use Rattle.dlm_space.specs.Locks.{Lock, blocker, grant_refusal, head_refusal}
+use Rattle.dlm_space.specs.Locks.{Lock, grant_refusal}
 use Rattle.dlm_space.specs.Queues.{head, ask_for, asks_of}
 use Rattle.dlm_space.specs.declared.ask.Ask.{Ask}
 use Rattle.mdc_types.specs.Resources.{number_of}
@@ -20,8 +20,8 @@ use Rattle.msg_rounds.specs.declared.phases.SenderPhase.{SenderPhase}
 use Rattle.msg_rounds.specs.declared.phases.SenderPhase.TheVariants as senders
 use Rattle.msg_rounds.specs.declared.phases.ReceiverPhase.{ReceiverPhase}
 use Rattle.msg_rounds.specs.declared.phases.ReceiverPhase.TheVariants as receivers
-use Rattle.cluster_model.specs.State.{Core, NotAsked}
-use Rattle.cluster_model.specs.Changes.{resync_res, sender_now}
+use Rattle.cluster_model.specs.State.{Core}
+use Rattle.cluster_model.specs.Changes.{sender_now}
 use Rattle.cluster_model.specs.Guards.{found_or}
 use Rattle.cluster_model.specs.Granting.{asker, not_grantable, message_held}
 use Rattle.cluster_model.specs.Phases.{is_up}
@@ -30,7 +30,6 @@ use Rattle.laws_locks.specs.Rounded.{Rounded}
 use Rattle.laws_locks.specs.Others.{ResyncLock, turn_request}
 use Rattle.laws_locks.specs.Unblocked.{served, news_refusal, message_news}
 use Rattle.laws_locks.proofs.Guarded.{first_none, refused_none}
-use Rattle.world_state.specs.Ready.{Ready}
 
 abbrev pub seen : Ask → ℕ × Mode
 seen a = (a.node, a.mode)

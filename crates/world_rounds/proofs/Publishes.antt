@@ -1,5 +1,5 @@
 -- What an accepted publish has.
-use Rattle.std.proofs.Common.{◌≡◌, ◌<◌, ◌≤◌, ◌==◌, ◌&&◌, ◌||◌, ℕ, Bool, true, false, not, List, [], ◌∷◌, Option, Some, None, refl, sym, ap, subst, ◌∙◌, arith, if◌then◌else◌}
+use Rattle.std.proofs.Common.{◌≡◌, ◌<◌, ◌≤◌, ◌==◌, ◌&&◌, ◌||◌, ℕ, Bool, true, false, not, Option, Some, None, refl, ap, subst, ◌∙◌, arith}
 use Rattle.std.proofs.lemmas.Bool.Decides.{nat_tests}
 use Rattle.dlm_modes.specs.Points.{with_at}
 use Rattle.dlm_modes.specs.declared.block.Block.{Block}
@@ -24,7 +24,7 @@ use Rattle.cluster_model.specs.State.{Core, Offer, sizes}
 use Rattle.cluster_model.specs.Changes.{no_new_dev, sender_now, device_unlocked}
 use Rattle.cluster_model.specs.Table.{refusal}
 use Rattle.laws_locks.specs.Others.{writes_slot}
-use Rattle.laws_locks.specs.Rounded.{stands, offering}
+use Rattle.laws_locks.specs.Rounded.{stands}
 use Rattle.laws_locks.proofs.Guarded.{tested, living}
 use Rattle.laws_locks.proofs.Told.{may_publish, may_finish, no_offer}
 use Rattle.laws_sound.specs.Legs.{WindowFits, WishFits}

@@ -1,5 +1,5 @@
 -- What an accepted row of a round has of its locks.
-use Rattle.std.proofs.Common.{◌≡◌, ◌<◌, ℕ, Bool, true, false, List, [], ◌∷◌, Option, Some, None, refl, arith, ap, ◌∙◌, not, if◌then◌else◌}
+use Rattle.std.proofs.Common.{◌≡◌, ◌<◌, ℕ, Bool, true, false, None, refl, ap, ◌∙◌, not, if◌then◌else◌}
 use Rattle.dlm_modes.specs.Points.{with_at}
 use Rattle.dlm_space.specs.Locks.{Lock, let_go, all_let_go}
 use Rattle.msg_rounds.specs.declared.phases.SenderPhase.{SenderPhase}

@@ -1,14 +1,10 @@
 -- The range that a node tells.
-use Rattle.std.proofs.Common.{◌≡◌, ◌<◌, ◌==◌, ◌&&◌, ℕ, zero, suc, List, [], ◌∷◌, length, get_or, set, refl, ap, sym, ◌∙◌, Bool, true, false, arith, if◌then◌else◌}
-use Rattle.std.specs.Prelude.{Option, None, slice_set}
+use Rattle.std.proofs.Common.{◌≡◌, ◌<◌, ◌==◌, ◌&&◌, ℕ, List, [], length, get_or, set, refl, ap, sym, ◌∙◌, Bool, true, false, arith, if◌then◌else◌}
+use Rattle.std.specs.Prelude.{Option}
 use Rattle.std.proofs.Math.Path.{fun_ext}
 use Rattle.std.proofs.lemmas.Bool.Decides.{nat_tests}
 use Rattle.dlm_modes.specs.Points.{with_at}
-use Rattle.mdc_types.specs.Roles.{eight, role_of}
 use Rattle.mdc_types.specs.declared.numbers.Range.{Range}
-use Rattle.mdc_types.specs.declared.roles.Role.{Role}
-use Rattle.mdc_types.specs.declared.roles.Role.TheVariants.{Spare}
-use Rattle.mdc_types.specs.declared.roles.Roles.{Roles}
 use Rattle.suspend_ranges.specs.Suspended.{ranges_of, entry_of}
 use Rattle.std.proofs.lemmas.List.{get_or_default}
 use Rattle.world_state.proofs.Points.{get-set}

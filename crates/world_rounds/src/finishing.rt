@@ -39,9 +39,9 @@ fn let_go_round(core: &mut CoreState, n: NodeId)
     requires node { n < 16 }
     requires holds { SenderHolds (core_of core.old).locks n ((core_of core.old).sender n) }
     requires may { finish_refusal ((core_of core.old).sender n) ≡ None }
-    ensures { core_of core.new
-        ≡ record (sender_now (core_of core.old) n SenderPhase.Idle) { locks = finished
-        (core_of core.old).locks n } }
+    ensures { core_of core.new ≡ record (sender_now (core_of core.old) n SenderPhase.Idle) {
+      locks = finished (core_of core.old).locks n;
+    } }
 {
     tables::finish(&mut core.senders, &mut core.space, n);
 }
@@ -91,8 +91,8 @@ fn complete(core: &mut CoreState, n: NodeId, offer: &Offer)
     requires { n < 16 }
     ensures { core_of core.new ≡ record (core_of core.old) {
       members = completed_at (core_of core.old).members offer.now.events;
-      adding = with_at (core_of core.old).adding n (adding_after
-        ((core_of core.old).adding n) offer.now.wish);
+      adding = with_at (core_of core.old).adding n
+          (adding_after ((core_of core.old).adding n) offer.now.wish);
     } }
 {
     core.members.complete(offer.events);

@@ -1,16 +1,16 @@
 // `grant`: the first who waits for a resource gets its lock, and goes on.
-ghost use Rattle.std.specs.Prelude.{◌≡◌, ◌<◌, ◌∷◌, [], None, Some};
+ghost use Rattle.std.specs.Prelude.{◌≡◌, ◌<◌, None, Some};
 ghost use Rattle.std.specs.Option.{option_map};
 ghost use Rattle.dlm_modes.specs.Guards.{first_of};
 ghost use Rattle.dlm_space.specs.Locks.{mode_of};
 ghost use Rattle.dlm_space.specs.Parts.{locks_of};
-ghost use Rattle.dlm_space.specs.Queues.{head, ask_for};
+ghost use Rattle.dlm_space.specs.Queues.{ask_for};
 ghost use Rattle.mdc_types.specs.Resources.{IsResource, number_of};
-ghost use Rattle.cluster_model.specs.Guards.{found_or};
-ghost use Rattle.cluster_model.specs.Granting.{asker, not_grantable, grant};
+ghost use Rattle.cluster_model.specs.Granting.{asker, grant};
 ghost use Rattle.cluster_model.specs.Table.{refusal};
 ghost use Rattle.cluster_model.specs.After.{after};
 ghost use Rattle.cluster_model.specs.Outcomes.{outcome_of};
+ghost use Rattle.world_rounds.specs.Tables.{serve_guards};
 ghost use Rattle.world_state.specs.Kept.{core_of, Judges};
 ghost use Rattle.world_state.specs.Ready.{Ready};
 
@@ -32,12 +32,7 @@ fn mode_of(space: &Space, res: Res, n: NodeId) -> Mode
 // The guards of a grant of a resource for which nodes wait.
 fn may_serve(space: &Space, res: Res) -> Result<(), Refusal>
     requires { IsResource res }
-    ensures { Judges result (first_of (
-        found_or (head (locks_of space.now (number_of res)).conversions (locks_of space.now
-        (number_of res)).requests) (Refusal.NothingAsked res)
-        ∷ not_grantable (locks_of space.now (number_of res)) (head (locks_of space.now
-        (number_of res)).conversions (locks_of space.now (number_of res)).requests)
-        ∷ [])) }
+    ensures { Judges result (first_of (serve_guards (locks_of space.now (number_of res)) res)) }
 {
     let Some((node, mode)) = space.head(res.number()) else {
         return Err(Refusal::NothingAsked(res));

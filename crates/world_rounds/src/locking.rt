@@ -29,8 +29,8 @@ fn check_addition(core: &CoreState, n: NodeId, right: bool) -> Result<(), Refusa
 
 // Refuses where another node holds `no-new-dev`.
 fn check_device(core: &CoreState, n: NodeId) -> Result<(), Refusal>
-    ensures { Judges result (refused_by Refusal.Blocked (blocker
-        ((core_of core.now).locks no_new_dev) n Mode.EX)) }
+    ensures { Judges result
+        (refused_by Refusal.Blocked (blocker ((core_of core.now).locks no_new_dev) n Mode.EX)) }
 {
     match core.space.blocker(Res::NoNewDev.number(), n, Mode::EX) {
         None => Ok(()),

@@ -1,5 +1,5 @@
 // `publish`: what the offer says is published to all.
-ghost use Rattle.std.specs.Prelude.{◌≡◌, ◌<◌, ◌==◌, ◌&&◌, not, ℕ, Option, [], None, Some, true, length, get_or, if◌then◌else◌};
+ghost use Rattle.std.specs.Prelude.{◌≡◌, ◌<◌, ◌&&◌, not, None, Some, true, length};
 ghost use Rattle.std.specs.Option.{option_map};
 ghost use Rattle.dlm_modes.specs.Guards.{first_of};
 ghost use Rattle.dlm_space.specs.Locks.{convert_refusal};
@@ -10,8 +10,7 @@ ghost use Rattle.cluster_msgs.specs.Ranges.{IsRange};
 ghost use Rattle.msg_rounds.specs.Holds.{SenderHolds};
 ghost use Rattle.msg_rounds.specs.Locks.{published};
 ghost use Rattle.msg_rounds.specs.Refusals.{is_ex, publish_refusal};
-ghost use Rattle.mdc_types.specs.declared.numbers.Range.{Range};
-ghost use Rattle.suspend_ranges.specs.Suspended.{entry_of, ranges_of};
+ghost use Rattle.world_rounds.specs.Tables.{suspended_of, suspended_with};
 ghost use Rattle.cluster_model.specs.Changes.{no_new_dev, sender_now, device_unlocked};
 ghost use Rattle.cluster_model.specs.Guards.{refused_by, draining, draining_in, reading};
 ghost use Rattle.cluster_model.specs.Publishing.{unwritten_leg, wish_is_due, publish_wish, publish_offer, block_of};
@@ -64,8 +63,8 @@ pub fn check_reads_nothing(core: &CoreState, n: NodeId) -> Result<(), Refusal>
 // The proposed roles want the leg written, and it doesn't have the proposed superblock.
 fn is_unwritten(offer: &Offer, l: LegId) -> bool
     requires { l < 8 }
-    ensures { result ≡ (is_written (role_of offer.now.roles l) && not
-        (has_bit offer.now.written l)) }
+    ensures { result ≡
+        (is_written (role_of offer.now.roles l) && not (has_bit offer.now.written l)) }
 {
     matches!(offer.roles.of(l), Role::Working | Role::Rebuilding) && !has_leg(offer.written, l)
 }
@@ -94,8 +93,8 @@ fn check_written(offer: &Offer) -> Result<(), Refusal>
 // What the offer asks before it is published.
 fn check_due(core: &CoreState, n: NodeId, offer: &Offer) -> Result<(), Refusal>
     requires { n < nodes_of core.now.identity.geometry }
-    ensures { Judges result (first_of (wish_is_due (core_of core.now) n
-        (offer_of offer.now) offer.now.wish)) }
+    ensures { Judges result
+        (first_of (wish_is_due (core_of core.now) n (offer_of offer.now) offer.now.wish)) }
 {
     match offer.wish {
         Wish::Range(r) => check_drained_in(core, n, r),
@@ -143,9 +142,7 @@ fn send_block(core: &mut CoreState, n: NodeId, block: &Block)
 #[tactic(auto, using(crate::proofs::Saying::range_put))]
 fn put_range(suspended: &mut [SuspendList; 16], n: NodeId, r: Range)
     requires { n < 16 }
-    ensures ranges { ◌≡◌ {A = ℕ → ℕ
-        → Option Range} (λ m. ranges_of (get_or suspended.new m [])) (λ m owner. if (m == n) &&
-        (owner == n) then entry_of r else ranges_of (get_or suspended.old m []) owner) }
+    ensures ranges { suspended_of suspended.new ≡ suspended_with (suspended_of suspended.old) n r }
     ensures sixteen { length suspended.new ≡ 16 }
 {
     suspended[n as usize].put(n, r);

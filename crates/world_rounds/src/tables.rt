@@ -1,7 +1,7 @@
 // What the calls of a round do to the tables of senders and of locks.
 ghost use Rattle.std.specs.Prelude.{◌≡◌, ◌<◌, ℕ, true, is_none, is_some, Some, None, length};
 ghost use Rattle.dlm_modes.specs.Points.{with_at};
-ghost use Rattle.dlm_space.specs.Locks.{holding, ask_now_refusal, convert_refusal, convert_now_refusal, granted, grant_refusal};
+ghost use Rattle.dlm_space.specs.Locks.{holding, ask_now_refusal, convert_refusal, convert_now_refusal, grant_refusal};
 ghost use Rattle.dlm_space.specs.Parts.{locks_of};
 ghost use Rattle.cluster_msgs.specs.Ranges.{IsRange};
 ghost use Rattle.cluster_model.specs.Changes.{no_new_dev, device_unlocked};
@@ -11,6 +11,7 @@ ghost use Rattle.msg_rounds.specs.declared.phases.SenderPhase.TheVariants.{Idle,
 ghost use Rattle.msg_rounds.specs.Holds.{NodeHolds, SenderHolds};
 ghost use Rattle.msg_rounds.specs.Locks.{token_asked, message_asked, published, finished, quitted};
 ghost use Rattle.msg_rounds.specs.Phases.{now_in};
+ghost use Rattle.laws_locks.specs.Unblocked.{served};
 ghost use Rattle.world_rounds.specs.Tables.{senders_of, receivers_of};
 ghost use Rattle.msg_rounds.specs.Refusals.{is_ex, ask_token_refusal, ask_message_refusal, token_granted_refusal, message_granted_refusal, ack_granted_refusal, pr_granted_refusal, publish_refusal, finish_refusal, quit_refusal};
 
@@ -112,9 +113,8 @@ pub fn ack_granted(senders: &mut [Sender; 16], space: &mut Space, n: NodeId)
 pub fn pr_granted(receivers: &mut [Receiver; 16], space: &mut Space, n: NodeId)
     requires node { n < 16 }
     requires may { pr_granted_refusal (locks_of space.old) n (receivers_of receivers.old n) ≡ None }
-    ensures receiver { receivers_of receivers.new
-        ≡ with_at (receivers_of receivers.old) n (now_in ReceiverPhase.Ready
-        (receivers_of receivers.old n)) }
+    ensures receiver { receivers_of receivers.new ≡ with_at (receivers_of receivers.old) n
+        (now_in ReceiverPhase.Ready (receivers_of receivers.old n)) }
     ensures sixteen { length receivers.new ≡ 16 }
     ensures locks { locks_of space.new ≡ locks_of space.old }
 {
@@ -191,9 +191,8 @@ pub fn lock_device(space: &mut Space, n: NodeId)
         → ask_now_refusal ((locks_of space.old) no_new_dev) n Mode.EX ≡ None }
     requires convert { is_some (((locks_of space.old) no_new_dev).held n) ≡ true
         → convert_now_refusal ((locks_of space.old) no_new_dev) n Mode.EX ≡ None }
-    ensures { locks_of space.new
-        ≡ with_at (locks_of space.old) no_new_dev (holding
-        ((locks_of space.old) no_new_dev) n Mode.EX) }
+    ensures { locks_of space.new ≡ with_at (locks_of space.old) no_new_dev
+        (holding ((locks_of space.old) no_new_dev) n Mode.EX) }
 {
     let device = Res::NoNewDev.number();
     match space.holder(device, n) {
@@ -228,9 +227,7 @@ pub fn tell_range(space: &mut Space, n: NodeId, r: Range)
 pub fn grant(space: &mut Space, res: Res)
     requires res { IsResource res }
     requires may { grant_refusal ((locks_of space.old) (number_of res)) ≡ None }
-    ensures { locks_of space.new
-        ≡ with_at (locks_of space.old) (number_of res) (granted ((locks_of space.old)
-        (number_of res))) }
+    ensures { locks_of space.new ≡ served (locks_of space.old) res }
 {
     if space.grant(res.number()).is_err() {
         unreachable!()

@@ -1,7 +1,6 @@
 -- What an accepted write of a superblock has, and what its transfer makes of it.
-use Rattle.std.proofs.Common.{◌≡◌, ◌<◌, ◌≤◌, ◌==◌, ◌&&◌, ℕ, Bool, true, false, List, length, map, get_or, Option, Some, None, refl, sym, ap, subst, ◌∙◌, arith, if◌then◌else◌}
+use Rattle.std.proofs.Common.{◌≡◌, ◌<◌, ◌&&◌, ℕ, Bool, true, false, List, length, map, get_or, Option, Some, None, refl, sym, ap, arith}
 use Rattle.std.specs.Prelude.{nat_lt}
-use Rattle.std.specs.Option.{option_map}
 use Rattle.std.proofs.Math.Path.{fun_ext}
 use Rattle.std.proofs.lemmas.List.{length-map}
 use Rattle.std.proofs.lemmas.Bool.Decides.{nat_tests}
@@ -13,7 +12,7 @@ use Rattle.mdc_types.specs.declared.events.Event.TheVariants.{WriteSuper}
 use Rattle.mdc_types.specs.declared.numbers.Sector.{Sector}
 use Rattle.mdc_types.specs.declared.outcomes.Outcome.{Outcome}
 use Rattle.mdc_types.specs.declared.outcomes.Outcome.TheVariants.{Done, Lost, Unreached}
-use Rattle.mdc_types.specs.declared.refusals.Refusal.TheVariants.{NoNode, NoLeg}
+use Rattle.mdc_types.specs.declared.refusals.Refusal.TheVariants.{NoLeg}
 use Rattle.mdc_types.specs.declared.roles.Roles.{Roles}
 use Rattle.md_superblock.specs.Arrays.{Says}
 use Rattle.msg_rounds.specs.Refusals.{is_offered}
@@ -21,7 +20,7 @@ use Rattle.cluster_model.specs.State.{Core, Offer, sizes}
 use Rattle.cluster_model.specs.After.{after, after_loss, after_miss}
 use Rattle.cluster_model.specs.Changes.{voided}
 use Rattle.cluster_model.specs.Failures.{failure, leg_lost}
-use Rattle.cluster_model.specs.Guards.{no_leg, no_node}
+use Rattle.cluster_model.specs.Guards.{no_leg}
 use Rattle.cluster_model.specs.Phases.{is_metadata, offers}
 use Rattle.cluster_model.specs.Superblocks.{super_written, written_on}
 use Rattle.cluster_model.specs.Table.{refusal}

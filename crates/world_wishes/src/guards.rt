@@ -15,9 +15,7 @@ ghost use Rattle.world_state.specs.Kept.{core_of, Judges};
 use disk_addition::Addition;
 use dlm_modes::Mode;
 use leg_failure::View;
-use mdc_types::{
-    Geometry, LegId, NodeId, NodeState, Part, Range, Refusal, Res, Role, Wish, Word,
-};
+use mdc_types::{Geometry, LegId, NodeId, NodeState, Part, Range, Refusal, Res, Role, Wish, Word};
 use world_state::{CoreState, check};
 
 /// Refuses a leg that there isn't: the legs are below 8.
@@ -73,10 +71,7 @@ fn holds_device_lock(core: &CoreState, n: NodeId) -> bool
     requires { n < nodes_of core.now.identity.geometry }
     ensures { result ≡ holds_device_lock (core_of core.now) n }
 {
-    matches!(
-        core.space.holder(Res::NoNewDev.number(), n),
-        Some(Mode::EX)
-    )
+    matches!(core.space.holder(Res::NoNewDev.number(), n), Some(Mode::EX))
 }
 
 /// What the wish asks of the addition and of its leg's role.
@@ -186,10 +181,7 @@ fn is_window(g: &Geometry, r: Range) -> bool
 {
     let (chunk, room) = (g.chunk(), g.room());
     (r.lo == 0 && r.hi == 0)
-        || (r.lo < r.hi
-            && r.hi <= room
-            && r.lo % chunk == 0
-            && (r.hi % chunk == 0 || r.hi == room))
+        || (r.lo < r.hi && r.hi <= room && r.lo % chunk == 0 && (r.hi % chunk == 0 || r.hi == room))
 }
 
 /// Refuses a range that can't be a window.

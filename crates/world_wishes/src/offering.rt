@@ -17,8 +17,8 @@ ghost use Rattle.world_rounds.specs.Tables.{senders_of};
 ghost use Rattle.world_state.specs.Kept.{core_of, offer_of, Judges};
 ghost use Rattle.world_state.specs.Ready.{Ready};
 
-use crate::wishes::may_wish;
 use crate::guards::check_loaded;
+use crate::wishes::may_wish;
 use dlm_space::Space;
 use leg_failure::with_role;
 use mdc_types::{Event, NodeId, Outcome, Refusal, Role, Roles, Wish};
@@ -116,14 +116,13 @@ fn offer_round(senders: &mut [Sender; 16], space: &mut Space, n: NodeId)
     }
 }
 
-
 // The node has offered this.
 fn settle_offer(core: &mut CoreState, n: NodeId, offer: Offer)
     requires node { n < 16 }
     requires may { offer_refusal ((core_of core.old).sender n) ≡ None }
-    ensures { core_of core.new
-        ≡ record (sender_now (core_of core.old) n SenderPhase.Offered) { offer = with_at
-        (core_of core.old).offer n (Some (offer_of offer)) } }
+    ensures { core_of core.new ≡ record (sender_now (core_of core.old) n SenderPhase.Offered) {
+      offer = with_at (core_of core.old).offer n (Some (offer_of offer));
+    } }
 {
     enter_offered(core, n);
     core.set_offer(n, Some(offer));
@@ -142,9 +141,11 @@ fn enter_offered(core: &mut CoreState, n: NodeId)
 fn draw(core: &mut CoreState, wish: &Wish) -> Outcome
     requires { is_metadata wish.now ≡ true → (core_of core.old).members.drawn < 2 ^ 63 }
     ensures outcome { result ≡ offer_outcome (core_of core.old) wish.now }
-    ensures members { core_of core.new
-        ≡ record (core_of core.old) { members = if is_metadata wish.now then drawn_one
-        (core_of core.old).members else (core_of core.old).members } }
+    ensures members { core_of core.new ≡ record (core_of core.old) {
+      members = if is_metadata wish.now
+          then drawn_one (core_of core.old).members
+          else (core_of core.old).members;
+    } }
 {
     if is_metadata(wish) {
         Outcome::Events(core.members.draw())

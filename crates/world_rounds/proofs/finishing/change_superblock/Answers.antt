@@ -1,4 +1,4 @@
-use Rattle.std.proofs.Common.{◌≡◌, ℕ, ap, ◌∙◌}
+use Rattle.std.proofs.Common.{ℕ, ap, ◌∙◌}
 use Rattle.cluster_model.specs.State.{Core}
 use Rattle.cluster_model.specs.Changes.{with_view}
 use Rattle.leg_failure.specs.Views.{NodeView}

@@ -1,7 +1,6 @@
-use Rattle.std.proofs.Common.{◌≡◌, ℕ, refl, sym, ap, subst, ◌∙◌, None, Some, true, false}
-use Rattle.cluster_model.specs.State.{Core, Offer}
-use Rattle.cluster_model.specs.Changes.{node_out}
-use Rattle.cluster_model.specs.Finishing.{finish_wish, finish_offer, round_over}
+use Rattle.std.proofs.Common.{sym, ap, ◌∙◌}
+use Rattle.cluster_model.specs.State.{Core}
+use Rattle.cluster_model.specs.Finishing.{finish_wish, finish_offer}
 use Rattle.world_state.specs.Kept.{core_of, offer_of}
 use Rattle.world_rounds.proofs.Publishes.{FinishAt, finish_at}
 use Rattle.world_rounds.proofs.finishing.finish_round.Goals as goal

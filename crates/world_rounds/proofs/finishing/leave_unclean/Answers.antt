@@ -1,8 +1,5 @@
-use Rattle.std.proofs.Common.{◌≡◌, ℕ, refl, sym, ap, subst, ◌∙◌, None, Some, true, false}
-use Rattle.cluster_model.specs.State.{Core, Offer}
-use Rattle.cluster_model.specs.Changes.{node_out}
-use Rattle.cluster_model.specs.Finishing.{finish_wish, finish_offer, round_over}
-use Rattle.world_state.specs.Kept.{core_of, offer_of}
+use Rattle.std.proofs.Common.{ap, ◌∙◌, false}
+use Rattle.cluster_model.specs.State.{Core}
 use Rattle.world_rounds.proofs.Rounding.{gone}
 use Rattle.world_rounds.proofs.finishing.leave_unclean.Goals as goal
 

@@ -1,7 +1,6 @@
-use Rattle.std.proofs.Common.{◌≡◌, refl, sym, ◌∙◌, ap}
-use Rattle.world_state.specs.Kept.{core_of}
+use Rattle.std.proofs.Common.{sym, ap}
 use Rattle.cluster_model.specs.Outcomes.{granted_to}
-use Rattle.world_rounds.proofs.Granted.{asked, some_asker}
+use Rattle.world_rounds.proofs.Granted.{asked}
 use Rattle.world_rounds.proofs.granting.grant.Goals as goal
 
 pub grant_to-requires-clause-asks : goal.grant_to-requires-clause-asks

@@ -1,14 +1,12 @@
-use Rattle.std.proofs.Common.{◌≡◌, ℕ, refl, sym, subst, get_or, None, Some}
-use Rattle.dlm_modes.specs.declared.mode.Mode.TheVariants.{PR}
+use Rattle.std.proofs.Common.{◌≡◌, ℕ, refl, sym, subst, get_or, None}
 use Rattle.dlm_space.specs.Locks.{Lock}
 use Rattle.dlm_space.specs.Queues.{ask_for}
 use Rattle.mdc_types.specs.declared.resources.Res.TheVariants as resources
-use Rattle.msg_rounds.specs.Phases.{new_receiving}
 use Rattle.msg_rounds.specs.Refusals.{ack_granted_refusal}
 use Rattle.msg_rounds.specs.declared.phases.SenderPhase.TheVariants.{Idle}
 use Rattle.laws_locks.specs.Unblocked.{served}
 use Rattle.world_state.specs.Kept.{Kept, core_of}
-use Rattle.world_rounds.proofs.Granted.{grantable, token_below, ack_below, pr_below, message_below, is_sent, news_sent}
+use Rattle.world_rounds.proofs.Granted.{grantable, ack_below}
 use Rattle.world_rounds.proofs.granting.grant_ack.Goals as goal
 
 pub grant-requires-clause-may : goal.grant-requires-clause-may

@@ -1,9 +1,7 @@
-use Rattle.std.proofs.Common.{◌≡◌, refl, None, Some}
-use Rattle.dlm_modes.specs.declared.mode.Mode.TheVariants.{PR}
-use Rattle.dlm_space.specs.Queues.{ask_for}
+use Rattle.std.proofs.Common.{refl}
 use Rattle.mdc_types.specs.declared.resources.Res.TheVariants as resources
 use Rattle.world_state.specs.Kept.{core_of}
-use Rattle.world_rounds.proofs.Granted.{grantable, sender_below, receiver_below, resync_below, token_busy, message_busy, ack_busy, pr_busy, is_sent, news_sent}
+use Rattle.world_rounds.proofs.Granted.{grantable, resync_below}
 use Rattle.world_rounds.proofs.granting.grant_resync.Goals as goal
 
 pub grant-requires-clause-may : goal.grant-requires-clause-may

@@ -1,4 +1,4 @@
-use Rattle.std.proofs.Common.{◌≡◌, ℕ, sym, ap, ◌∙◌}
+use Rattle.std.proofs.Common.{sym, ap, ◌∙◌}
 use Rattle.cluster_model.specs.Publishing.{publish_offer}
 use Rattle.world_state.specs.Kept.{core_of, offer_of}
 use Rattle.world_rounds.proofs.Publishes.{publish_at}

@@ -1,14 +1,8 @@
-use Rattle.std.proofs.Common.{◌≡◌, ◌<◌, ℕ, refl, sym, ap, subst, ◌∙◌, None, Some, get_or, true, false}
-use Rattle.std.specs.Prelude.{Option}
-use Rattle.std.specs.Option.{option_map}
-use Rattle.dlm_modes.specs.Points.{with_at}
-use Rattle.dlm_modes.specs.declared.mode.Mode.TheVariants.{PW}
+use Rattle.std.proofs.Common.{◌≡◌, sym, ap, subst, ◌∙◌, None}
 use Rattle.dlm_space.specs.Locks.{Lock, convert_refusal}
 use Rattle.cluster_model.specs.State.{Core, Offer}
-use Rattle.cluster_model.specs.Publishing.{publish_wish, publish_offer, block_of}
+use Rattle.cluster_model.specs.Publishing.{publish_wish}
 use Rattle.world_state.specs.Kept.{core_of, offer_of}
-use Rattle.mdc_types.specs.declared.numbers.Range.{Range}
-use Rattle.laws_sound.specs.Legs.{WishFits}
 use Rattle.world_rounds.proofs.Publishes.{PublishAt, publish_at, own_lock, sent, ranges_fit}
 use Rattle.world_rounds.proofs.publishing.publish_offer.Goals as goal
 

@@ -1,4 +1,4 @@
-use Rattle.std.proofs.Common.{sym, ◌∙◌, arith, ℕ, Bool, not, ◌&&◌}
+use Rattle.std.proofs.Common.{sym, ◌∙◌, arith, not, ◌&&◌}
 use Rattle.dlm_modes.proofs.FirstLaws.{first_such_more, first_such_found, first_such_end}
 use Rattle.mdc_types.specs.Bits.{has_bit}
 use Rattle.mdc_types.specs.Roles.{role_of, is_written}

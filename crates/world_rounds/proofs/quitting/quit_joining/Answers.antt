@@ -1,10 +1,6 @@
-use Rattle.std.proofs.Common.{◌≡◌, ◌<◌, ℕ, refl, sym, ap, subst, ◌∙◌, None, Some, get_or, true, false}
-use Rattle.dlm_modes.specs.Points.{with_at}
-use Rattle.dlm_space.specs.Locks.{Lock, all_let_go}
-use Rattle.node_member.specs.Members.{left}
+use Rattle.std.proofs.Common.{sym, ap, ◌∙◌, true}
 use Rattle.cluster_model.specs.State.{Core}
-use Rattle.cluster_model.specs.Changes.{node_out, sender_idle}
-use Rattle.laws_locks.proofs.Told.{up_is}
+use Rattle.cluster_model.specs.Changes.{node_out}
 use Rattle.world_state.specs.Kept.{core_of}
 use Rattle.world_rounds.proofs.Rounding.{QuitAt, quit_at, not_up_quits, gone}
 use Rattle.world_rounds.proofs.quitting.quit_joining.Goals as goal

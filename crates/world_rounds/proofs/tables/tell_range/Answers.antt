@@ -1,6 +1,5 @@
-use Rattle.std.proofs.Common.{◌≡◌, ◌∙◌, ap, ℕ, List, Some}
+use Rattle.std.proofs.Common.{◌∙◌, ap, ℕ, List, Some}
 use Rattle.dlm_modes.specs.Points.{with_at}
-use Rattle.dlm_modes.specs.declared.block.Block.{Block}
 use Rattle.dlm_space.specs.Parts.{locks_of}
 use Rattle.dlm_space.specs.Locks.{Lock, holding, with_value}
 use Rattle.dlm_modes.specs.declared.mode.Mode.TheVariants.{PW}

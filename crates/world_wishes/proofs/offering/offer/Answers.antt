@@ -1,13 +1,7 @@
-use Rattle.std.proofs.Common.{◌≡◌, ◌<◌, ◌^◌, ℕ, sym, ap, subst, ◌∙◌, Some, if◌then◌else◌}
-use Rattle.dlm_modes.specs.Points.{with_at}
-use Rattle.msg_rounds.specs.declared.phases.SenderPhase.TheVariants.{Offered}
-use Rattle.node_member.specs.Members.{drawn_one}
-use Rattle.cluster_model.specs.State.{Core, Offer}
-use Rattle.cluster_model.specs.Changes.{sender_now}
-use Rattle.cluster_model.specs.Phases.{is_metadata}
-use Rattle.cluster_model.specs.Wishes.{offer_outcome}
+use Rattle.std.proofs.Common.{◌<◌, ◌^◌, sym, ap, subst}
+use Rattle.cluster_model.specs.State.{Core}
 use Rattle.world_state.specs.Kept.{core_of}
-use Rattle.world_wishes.proofs.Offered.{OfferAt, offer_at, after_offer}
+use Rattle.world_wishes.proofs.Offered.{OfferAt, offer_at}
 use Rattle.world_wishes.proofs.offering.offer.Goals as goal
 
 pub proposal-offer-requires : goal.proposal-offer-requires

@@ -1,11 +1,9 @@
-use Rattle.std.proofs.Common.{◌≡◌, ℕ, List, sym, ap, subst, ◌∙◌, Some, None}
-use Rattle.mdc_types.specs.declared.numbers.Sector.{Sector}
+use Rattle.std.proofs.Common.{sym, ap, subst, ◌∙◌}
 use Rattle.mdc_types.specs.declared.roles.Roles.{Roles}
 use Rattle.md_superblock.specs.Arrays.{super_for, array_of}
 use Rattle.md_superblock.specs.Superblock.{IsSuper}
 use Rattle.cluster_model.specs.Phases.{is_metadata, offers}
 use Rattle.cluster_model.specs.Superblocks.{says_of_offer}
-use Rattle.mdc_types.specs.declared.events.Event.TheVariants.{WriteSuper}
 use Rattle.cluster_model.specs.State.{Offer}
 use Rattle.world_state.specs.Kept.{Kept, core_of, offer_of}
 use Rattle.world_wishes.proofs.Supers.{SuperAt, super_at, some_offer, says_with}

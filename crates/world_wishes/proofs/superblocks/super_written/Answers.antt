@@ -1,14 +1,13 @@
-use Rattle.std.proofs.Common.{◌≡◌, ℕ, sym, ap, ◌∙◌, Some, None, refl}
+use Rattle.std.proofs.Common.{ℕ, sym, ap, ◌∙◌, Some, refl}
 use Rattle.std.specs.Prelude.{Option}
 use Rattle.std.specs.Option.{option_map}
 use Rattle.dlm_modes.specs.Points.{with_at}
 use Rattle.mdc_types.specs.Bits.{has_bit}
 use Rattle.cluster_model.specs.State.{Offer}
 use Rattle.cluster_model.specs.Superblocks.{written_on}
-use Rattle.mdc_types.specs.declared.events.Event.TheVariants.{WriteSuper}
 use Rattle.cluster_model.specs.State.{Core}
 use Rattle.world_state.specs.Kept.{core_of, offer_of}
-use Rattle.world_wishes.proofs.Supers.{SuperAt, super_at, some_offer, noted, leg_is_there, place_is_there, lost_after, missed_after, super_sent, super_not_sent}
+use Rattle.world_wishes.proofs.Supers.{super_at, some_offer, noted}
 use Rattle.world_wishes.proofs.superblocks.super_written.Goals as goal
 
 pub offer-requires : goal.offer-requires

@@ -1,10 +1,9 @@
-use Rattle.std.proofs.Common.{refl}
 use Rattle.laws_sound.specs.Laws.{IsOnLeg}
 use Rattle.cluster_model.specs.Transfers.{writes_to}
 use Rattle.mdc_types.specs.declared.events.Event.TheVariants.{WriteSuper}
-use Rattle.cluster_model.specs.State.{Core, sizes}
-use Rattle.world_state.specs.Kept.{core_of, offer_of}
-use Rattle.world_wishes.proofs.Supers.{SuperAt, super_at, some_offer, noted, leg_is_there, place_is_there, lost_after, missed_after, super_sent, super_not_sent}
+use Rattle.cluster_model.specs.State.{sizes}
+use Rattle.world_state.specs.Kept.{core_of}
+use Rattle.world_wishes.proofs.Supers.{SuperAt, super_at, leg_is_there, place_is_there, super_sent, super_not_sent}
 use Rattle.world_wishes.proofs.superblocks.write_super.Goals as goal
 
 pub send-requires : goal.send-requires
