@@ -77,7 +77,6 @@ released-none lock n = by_writer lock n (is_writer (mode_of lock n))
 pub same_at : {A : Type 0} (f : ℕ → A) (n : ℕ) → f ≡ with_at f n (f n)
 same_at f n = fun_ext (λ m. grind (arith, nat_tests))
 
-
 pub same_bits : (core : Core) (n : ℕ) → core ≡ record core { bitmap = with_at core.bitmap n (core.bitmap n) }
 same_bits core n = ap (λ (f : ℕ → Bitmap). record core { bitmap = f }) (same_at core.bitmap n)
 
