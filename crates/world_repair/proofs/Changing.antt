@@ -1,5 +1,5 @@
 -- The core after a change of one of its tables.
-use Rattle.std.proofs.Common.{◌≡◌, ℕ, ◌==◌, ◌<◌, nat_lt, Bool, true, false, inl, inr, List, length, get_or, replicate, refl, sym, ap, ◌∙◌, arith}
+use Rattle.std.proofs.Common.{◌≡◌, ℕ, ◌==◌, nat_lt, Bool, true, false, inl, inr, List, get_or, replicate, refl, sym, ap, ◌∙◌, arith}
 use Rattle.std.specs.Prelude.{IsSome, Option, Some, None, option_map, if◌then◌else◌, Result, Ok, Err, OnOk}
 use Rattle.std.specs.Result.{result_err}
 use Rattle.std.proofs.Math.Path.{fun_ext}
@@ -9,11 +9,9 @@ use Rattle.std.proofs.lemmas.List.{length-replicate, get_or-replicate, get_or_pa
 use Rattle.dlm_modes.specs.Points.{with_at}
 use Rattle.dlm_space.specs.Locks.{Lock, released, let_go, with_value, is_writer, mode_of}
 use Rattle.dlm_space.specs.Parts.{Part, locks_of}
-use Rattle.mdc_types.specs.Geometry.{Sizes, chunks_of, page_of}
-use Rattle.mdc_types.specs.Roles.{role_of, is_rebuilding, legs_with}
-use Rattle.mdc_types.specs.declared.roles.Roles.{Roles}
+use Rattle.mdc_types.specs.Geometry.{Sizes, chunks_of}
 use Rattle.mdc_types.specs.declared.numbers.Sector.{Sector}
-use Rattle.node_bitmaps.specs.Bitmap.{Bitmap, with_need}
+use Rattle.node_bitmaps.specs.Bitmap.{Bitmap}
 use Rattle.node_bits.specs.Bitmaps.{Maps, bitmaps_of}
 use Rattle.node_copies.specs.Copies.{Copyings, copies_of}
 use Rattle.node_copies.specs.Recoveries.{Progresses, recoveries_of}
@@ -21,7 +19,6 @@ use Rattle.node_copies.specs.Additions.{Addings, adding_of}
 use Rattle.node_member.specs.Members.{Members}
 use Rattle.node_member.specs.Parts as members
 use Rattle.node_recovery.specs.Progress.{Recovering}
-use Rattle.resync_worker.specs.Copying.{Passing}
 use Rattle.resync_worker.specs.declared.buffer.Buffer.{Buffer}
 use Rattle.dlm_space.specs.Locks.{holding, asked}
 use Rattle.dlm_modes.specs.declared.mode.Mode.TheVariants.{PW, EX}

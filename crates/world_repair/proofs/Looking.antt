@@ -1,5 +1,5 @@
 -- What was looked up is what the machine looks up.
-use Rattle.std.proofs.Common.{◌≡◌, ℕ, Bool, true, false, refl, sym, ap, ◌∙◌, Option, Some, None}
+use Rattle.std.proofs.Common.{◌≡◌, ℕ, Bool, true, false, refl, ap, ◌∙◌, Option, Some, None}
 use Rattle.std.specs.Prelude.{option_map, is_some}
 use Rattle.leg_failure.specs.Views.{works, is_target}
 use Rattle.node_bitmaps.specs.Bitmap.{unmarked_target_of}
