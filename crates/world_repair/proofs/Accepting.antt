@@ -64,13 +64,6 @@ leg_is core l ready e =
     let few = ready.range.legs.sizes_fit.legs.1 in
     omega arith
 
--- an up node reads from some leg
-up_in : (s : NodeState) → is_up s ≡ true → is_in s ≡ true
-up_in s e = grind arith
-
-pub reads_some : (core : Core) (n : ℕ) → Ready core → needs_up core n ≡ None → IsSome (working_leg (core.view n))
-reads_some core n ready e = ready.leg.leg n (up_in (core.state n) (unless_none _ _ e))
-
 -- The lock `resync`.
 
 may_ask : (lock : Lock) (n : ℕ) → lock.held n ≡ None → asks_of n lock.requests ≡ [] → ask_refusal lock n ≡ None
@@ -107,31 +100,8 @@ buffer_turn NotAsked p w e = cc
 buffer_turn Asked p w e = cc
 buffer_turn Held p w e = buffer_pass p w e
 
-no_buffer : (x : Option Buffer) (w : Option Range) → is_window (buffer_word x w) ≡ true → x ≡ None
-no_buffer None w e = refl
-no_buffer (Some b) w e = cc
-
-empty_pass : (p : Option Passing) (w : Option Range) → is_window (pass_word p w) ≡ true → buffer_in p ≡ None
-empty_pass None w e = refl
-empty_pass (Some p) w e = no_buffer p.buffer w e
-
-empty_turn : (t : Turn) (p : Option Passing) (w : Option Range) → is_window (turn_word t p w) ≡ true → buffer_in p ≡ None
-empty_turn NotAsked p w e = cc
-empty_turn Asked p w e = cc
-empty_turn Held p w e = empty_pass p w e
-
 pub has_buffer : (core : Core) (n : ℕ) → is_buffer (copy_word (core.copy n)) ≡ true → IsSome (buffer_of core n)
 has_buffer core n e = buffer_turn (core.copy n).turn (core.copy n).pass (core.copy n).window e
-
-pub has_none : (core : Core) (n : ℕ) → is_window (copy_word (core.copy n)) ≡ true → buffer_of core n ≡ None
-has_none core n e = empty_turn (core.copy n).turn (core.copy n).pass (core.copy n).window e
-
-open_some : (x : Option Recovering) → is_open (recovery_word x) ≡ true → IsSome x
-open_some None e = cc
-open_some (Some r) e = refl
-
-pub recovers_some : (core : Core) (n : ℕ) → is_open (recovery_word (core.recovery n)) ≡ true → IsSome (core.recovery n)
-recovers_some core n e = open_some (core.recovery n) e
 
 -- The recovery's slot.
 
@@ -163,10 +133,3 @@ or_true false x e = rw e refl
 pub slot_held : (core : Core) (n d : ℕ) → Ready core → d < 16 → option_map (λ (r : Recovering). r.slot) (core.recovery n) ≡ Some d → release_refusal (core.locks d) n ≡ None
 slot_held core n d ready lt e =
     may_release (core.locks d) n PW (ready.others.slots.held n d lt ∙ or_true ((n == d) && core.members.live n) (recovers (core.recovery n) d) (slot_at (core.recovery n) d e))
-
-heir_free : (m : Members) (x : Option ℕ) → pending_heir m x ≡ None → heir_refusal m x ≡ None
-heir_free m None e = refl
-heir_free m (Some h) e = let free = unless_none (not (m.pending h)) (HeirPending h) e in rw free refl
-
-pub may_begin : (m : Members) (d : ℕ) → m.pending d ≡ true → pending_heir m (m.heir d) ≡ None → begin_refusal m d ≡ None
-may_begin m d p e = rw p (heir_free m (m.heir d) e)

@@ -78,10 +78,6 @@ pub same_bits : (core : Core) (n : ℕ) → core ≡ record core { bitmap = with
 same_bits core n = ap (λ (f : ℕ → Bitmap). record core { bitmap = f }) (same_at core.bitmap n)
 
 module _ (k : Kept) where
-  pub locks_let_go : (now : List Part) (res n : ℕ) → locks_of now ≡ with_at (locks_of k.space) res (released (locks_of k.space res) n None)
-      → core_of (record k { space = now }) ≡ record (core_of k) { locks = with_at (core_of k).locks res (let_go ((core_of k).locks res) n) }
-  locks_let_go now res n e = locks_are k now _ (e ∙ ap (with_at (locks_of k.space) res) (released-none (locks_of k.space res) n))
-
   pub full_are : (now : Copyings) (n : ℕ) (legs : ℕ → Bool) → k.copies.sizes ≡ k.identity.geometry
       → copies_of now ≡ with_at (copies_of k.copies) n (record (copies_of k.copies n) { pass = Some (begun (λ c. nat_lt c (chunks_of k.copies.sizes)) legs) })
       → core_of (record k { copies = now }) ≡ begin_pass (core_of k) n (λ c. nat_lt c (chunks_of (sizes (core_of k)))) legs
@@ -101,16 +97,6 @@ module _ (k : Kept) where
   adding_due now n v same f d p is =
       adding_are k now _ (f d p (ap (λ (g : Sizes). page_to_gather g (adding_of k.additions n).gathering) same ∙ is)
       ∙ ap (λ (g : Sizes). with_at (adding_of k.additions) n (record (adding_of k.additions n) { gathering = gathered_page (adding_of k.additions n).gathering (page_has g p v.bytes) })) same)
-
--- no chunk of so many
-none_at : (n c : ℕ) → get_or (replicate n false) c false ≡ false
-none_at n c = elim (cases_lt c n) [
-  | inl lt ↦ get_or-replicate n c false false lt
-  | inr past ↦ let long = length-replicate n false in get_or_past (replicate n false) c false (rw long past)
-]
-
-pub no_chunks : (n : ℕ) → ◌≡◌ {A = ℕ → Bool} (λ c. get_or (replicate n false) c false) (λ c. false)
-no_chunks n = fun_ext (none_at n)
 
 -- One change after another.
 
@@ -168,9 +154,3 @@ lock_asked a b c n e f = rw (f, e) refl
 pub pass_ended : (a b c : Core) (n : ℕ) → b ≡ record a { locks = with_at a.locks resync_res (let_go (a.locks resync_res) n) }
     → c ≡ with_copy b n no_copy → c ≡ end_pass a n
 pass_ended a b c n e f = rw (f, e) refl
-
-pub recovery_ended : (a b : Core) (n d : ℕ) (x : Option Recovering) → option_map (λ (r : Recovering). r.slot) x ≡ Some d
-    → b ≡ record a { members = ends a.members d; recovery = with_at a.recovery n None; locks = with_at a.locks d (let_go (a.locks d) n) }
-    → b ≡ slot_recovered a n x
-recovery_ended a b n d None is e = cc
-recovery_ended a b n d (Some r) is e = let same : r.slot ≡ d = cc in e ∙ rw same refl

@@ -34,14 +34,6 @@ pub unmarked_is : (core : Core) (n : ℕ) (x : Option Recovering) (legs : ℕ �
 unmarked_is core n None legs got there e is = cc
 unmarked_is core n (Some r) legs got there e is = is r refl ∙ ap (λ f. unmarked_target_of (sizes core) (core.bitmap n) f r.found) e
 
-pub needed_is : (core : Core) (n : ℕ) (x : Option Recovering) (got : Option ℕ) → is_some x ≡ true
-    → ((r : Recovering) → x ≡ Some r → got ≡ first_found_needed (sizes core) r (core.bitmap n).need) → got ≡ chunk_needed core n x
-needed_is core n None got there is = cc
-needed_is core n (Some r) got there is = is r refl
-
-pub not_there : (b : Bool) → b ≡ true → b ≡ false → ⊥
-not_there b e f = cc
-
 pub told_none : (x : Option Buffer) → option_map {U = ℕ × Sector} (λ (b : Buffer). (b.sector, b.value)) x ≡ None → settled_with x ≡ Done
 told_none None e = refl
 told_none (Some b) e = cc
