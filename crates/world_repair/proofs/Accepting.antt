@@ -1,5 +1,5 @@
 -- What a row tells whose guards refuse nothing, at a place where all is ready.
-use Rattle.std.proofs.Common.{◌≡◌, ℕ, ◌+◌, ◌-◌, ◌&&◌, ◌||◌, ◌<◌, ◌≤◌, ◌==◌, Bool, true, false, not, Option, Some, None, [], refl, sym, ap, subst, ◌∙◌, arith}
+use Rattle.std.proofs.Common.{◌≡◌, ℕ, ◌+◌, ◌-◌, ◌&&◌, ◌||◌, ◌<◌, ◌≤◌, ◌==◌, Bool, true, false, Option, Some, None, [], refl, sym, ap, subst, ◌∙◌, arith}
 use Rattle.std.specs.Prelude.{IsSome, option_map, nat_le, if◌then◌else◌}
 use Rattle.std.proofs.lemmas.Bool.{ltb-true}
 use Rattle.std.proofs.lemmas.Bool.Decides.{nat_tests}
@@ -10,20 +10,16 @@ use Rattle.dlm_space.specs.Queues.{asks_of}
 use Rattle.mdc_types.specs.Geometry.{Sizes, nodes_of, pages_of, slot_pages, chunks_of, parts_of}
 use Rattle.mdc_types.specs.declared.events.Event.TheVariants.{AskResync, EndPass}
 use Rattle.mdc_types.specs.declared.numbers.Range.{Range}
-use Rattle.mdc_types.specs.declared.refusals.Refusal.TheVariants.{NoNode, NoPage, NoLeg, HeirPending}
-use Rattle.mdc_types.specs.declared.roles.NodeState.{NodeState}
-use Rattle.leg_failure.specs.Views.{working_leg}
-use Rattle.node_member.specs.Members.{Members, begin_refusal, heir_refusal}
+use Rattle.mdc_types.specs.declared.refusals.Refusal.TheVariants.{NoNode, NoPage, NoLeg}
 use Rattle.node_recovery.specs.Progress.{Recovering}
 use Rattle.resync_worker.specs.Copying.{Passing}
 use Rattle.resync_worker.specs.declared.buffer.Buffer.{Buffer}
 use Rattle.cluster_model.specs.State.{Core, Turn, NotAsked, Asked, Held, sizes}
 use Rattle.cluster_model.specs.Guards.{no_node, no_page, no_leg}
-use Rattle.cluster_model.specs.Phases.{needs_up, is_up, is_in, turn_word, pass_word, buffer_word, copy_word, recovery_word, is_window, is_buffer, is_open}
+use Rattle.cluster_model.specs.Phases.{turn_word, pass_word, buffer_word, copy_word, is_buffer}
 use Rattle.cluster_model.specs.Changes.{resync_res}
 use Rattle.cluster_model.specs.Copying.{buffer_in, buffer_of}
 use Rattle.cluster_model.specs.Passes.{resync_guards, done_guards}
-use Rattle.cluster_model.specs.Recovering.{pending_heir}
 use Rattle.cluster_model.specs.Table.{refusal}
 use Rattle.laws_locks.specs.Others.{recovers, turn_held, turn_request, writes_slot}
 use Rattle.laws_locks.proofs.Words.{no_turn, lock_held}

@@ -1,11 +1,9 @@
 -- The core after a change of one of its tables.
-use Rattle.std.proofs.Common.{◌≡◌, ℕ, ◌==◌, nat_lt, Bool, true, false, inl, inr, List, get_or, replicate, refl, sym, ap, ◌∙◌, arith}
+use Rattle.std.proofs.Common.{◌≡◌, ℕ, ◌==◌, nat_lt, Bool, true, false, List, get_or, refl, sym, ap, ◌∙◌, arith}
 use Rattle.std.specs.Prelude.{IsSome, Option, Some, None, option_map, if◌then◌else◌, Result, Ok, Err, OnOk}
 use Rattle.std.specs.Result.{result_err}
 use Rattle.std.proofs.Math.Path.{fun_ext}
 use Rattle.std.proofs.lemmas.Bool.Decides.{nat_tests}
-use Rattle.std.proofs.lemmas.Bool.{cases_lt}
-use Rattle.std.proofs.lemmas.List.{length-replicate, get_or-replicate, get_or_past}
 use Rattle.dlm_modes.specs.Points.{with_at}
 use Rattle.dlm_space.specs.Locks.{Lock, released, let_go, with_value, is_writer, mode_of}
 use Rattle.dlm_space.specs.Parts.{Part, locks_of}
@@ -33,7 +31,7 @@ use Rattle.cluster_model.specs.Changes.{headed, resync_res, with_copy, no_copy}
 use Rattle.cluster_model.specs.Copying.{next_sector, with_pass, filled_with, copied_in, buffer_sector, need_met, settle_buffer}
 use Rattle.cluster_model.specs.Gathering.{due_page, page_gathered}
 use Rattle.cluster_model.specs.Passes.{begin_pass, pass_again, ask_resync, end_pass}
-use Rattle.cluster_model.specs.Recovering.{recover, page_found, page_cleared, slot_recovered}
+use Rattle.cluster_model.specs.Recovering.{recover, page_found, page_cleared}
 use Rattle.world_repair.specs.Added.{with_page_added}
 use Rattle.cluster_model.specs.State.{Core, Copy, Adding, Asked, sizes}
 use Rattle.world_state.specs.Kept.{Kept, core_of}

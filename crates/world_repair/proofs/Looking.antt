@@ -1,9 +1,9 @@
 -- What was looked up is what the machine looks up.
-use Rattle.std.proofs.Common.{◌≡◌, ℕ, Bool, true, false, refl, ap, ◌∙◌, Option, Some, None}
+use Rattle.std.proofs.Common.{◌≡◌, ℕ, Bool, true, refl, ap, ◌∙◌, Option, Some, None}
 use Rattle.std.specs.Prelude.{option_map, is_some}
 use Rattle.leg_failure.specs.Views.{works, is_target}
 use Rattle.node_bitmaps.specs.Bitmap.{unmarked_target_of}
-use Rattle.node_recovery.specs.Progress.{Recovering, first_found_needed, unread_leg, uncleared_leg}
+use Rattle.node_recovery.specs.Progress.{Recovering, unread_leg, uncleared_leg}
 use Rattle.node_copies.specs.Recoveries.{first_unread, first_uncleared}
 use Rattle.resync_worker.specs.Copying.{missing_of, missing_target}
 use Rattle.resync_worker.specs.declared.buffer.Buffer.{Buffer}
@@ -11,7 +11,7 @@ use Rattle.cluster_model.specs.State.{Core, sizes}
 use Rattle.mdc_types.specs.declared.numbers.Sector.{Sector}
 use Rattle.mdc_types.specs.declared.outcomes.Outcome.TheVariants.{Done, Settled}
 use Rattle.cluster_model.specs.Copying.{uncopied_target, settled_with}
-use Rattle.cluster_model.specs.Recovering.{leg_unread, leg_unmarked, leg_uncleared, chunk_needed}
+use Rattle.cluster_model.specs.Recovering.{leg_unread, leg_unmarked, leg_uncleared}
 
 pub some_map : {A B : Type 0} (f : A → B) (x : Option A) → is_some (option_map f x) ≡ is_some x
 some_map f None = refl
