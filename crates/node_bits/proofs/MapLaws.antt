@@ -1,8 +1,8 @@
 -- Maps at the opening.
-use Rattle.std.proofs.Common.{◌≡◌, ℕ, ◌+◌, ◌<◌, ◌==◌, Bool, false, inl, inr, List, [], ◌∷◌, ◌++◌, get_or, set, refl, sym, ap, subst, ◌∙◌, arith, length-append}
+use Rattle.std.proofs.Common.{◌≡◌, ℕ, ◌+◌, ◌<◌, ◌==◌, Bool, false, inl, inr, List, [], ◌∷◌, ◌++◌, get_or, set, sym, ap, subst, ◌∙◌, arith, length-append}
 use Rattle.std.proofs.Math.Path.{fun_ext}
-use Rattle.std.proofs.lemmas.Bool.{cases_lt, cases_eq}
-use Rattle.std.proofs.lemmas.List.{get_or_default, get_or_past, get_or_append_left, get_or_push, get_or-set_same, get_or-set_other, length-set}
+use Rattle.std.proofs.lemmas.Bool.{cases_lt}
+use Rattle.std.proofs.lemmas.List.{get_or_default, get_or_past, get_or_append_left, get_or_push}
 use Rattle.std.proofs.lemmas.Nat.Bits.{bit_at-zero}
 use Rattle.dlm_modes.specs.Points.{with_at}
 use Rattle.mdc_types.specs.Geometry.{Sizes, chunks_of, pages_of}
@@ -27,9 +27,6 @@ new_more g k maps m are none size = record {
     | inr past ↦ rw (get_or_push maps m no_map n (omega (arith, are.many))) size
   ];
 }
-
-pub new_none : (g : Sizes) → AreNew g 0 []
-new_none g = record { many = refl; empty = λ n lt. absurd (omega arith); each = λ n lt. absurd (omega arith) }
 
 no_leg : (l : ℕ) → has_bit 0 l ≡ false
 no_leg l = ap (λ (b : ℕ). b == 1) (bit_at-zero l)
@@ -57,16 +54,6 @@ pub bitmaps_call : (change : Bitmap → Bitmap) (g : Sizes) (maps : List Map) (n
     → bitmap_of new ≡ change (bitmap_of got)
     → (λ m. bitmap_of (map_at (set maps n new) m)) ≡ with_at (λ m. bitmap_of (map_at maps m)) n (change (bitmap_of (map_at maps n)))
 bitmaps_call change g maps n got new are lt here is = table-call bitmap_of change maps n new no_map got (omega (arith, are.many)) here is
-
--- the maps keep their sizes
-pub maps_call : (g : Sizes) (maps : List Map) (n : ℕ) (new : Map) → AreMaps g maps → n < 16 → HasSize new (chunks_of g) (pages_of g) → AreMaps g (set maps n new)
-maps_call g maps n new are lt size = record {
-  many = length-set maps n new ∙ are.many;
-  each = λ m below. elim (cases_eq m n) [
-    | inl same ↦ rw (same, get_or-set_same maps n new no_map (omega (arith, are.many))) size
-    | inr other ↦ rw (get_or-set_other maps n m new no_map other) (are.each m below)
-  ];
-}
 
 -- a member's map at the opening
 pub opened_is : (g : Sizes) (m : Map) (legs : ℕ) (warm : Bool) → HasSize m (chunks_of g) (pages_of g) → legs ≡ g.legs

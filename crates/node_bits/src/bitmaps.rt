@@ -105,7 +105,8 @@ impl Bitmaps {
     pub fn first_needed_of(&self, n: NodeId, chunks: &ChunkSet) -> Option<ChunkNo>
         requires node { n < 16 }
         requires chunks { length chunks.now ≡ chunks_of self.now.sizes }
-        ensures { result ≡ first_needed_of self.now.sizes (bitmaps_of self.now n) (λ c. get_or chunks.now c false) }
+        ensures { result ≡ first_needed_of self.now.sizes (bitmaps_of self.now n)
+            (λ c. get_or chunks.now c false) }
     {
         self.maps[n as usize].first_needed_of(chunks)
     }
@@ -131,7 +132,8 @@ impl Bitmaps {
     pub fn unmarked_target_of(&self, n: NodeId, targets: u8, chunks: &ChunkSet) -> Option<LegId>
         requires node { n < 16 }
         requires chunks { length chunks.now ≡ chunks_of self.now.sizes }
-        ensures { result ≡ unmarked_target_of self.now.sizes (bitmaps_of self.now n) (has_bit targets)
+        ensures { result ≡ unmarked_target_of self.now.sizes (bitmaps_of self.now n)
+            (has_bit targets)
             (λ c. get_or chunks.now c false) }
     {
         self.maps[n as usize].unmarked_target_of(targets, chunks)
@@ -141,7 +143,10 @@ impl Bitmaps {
     pub fn page(&self, n: NodeId, uuid: &[u8; 16], p: PageNo) -> Sector
         requires node { n < 16 }
         requires page { p < slot_pages self.now.sizes }
-        ensures { result ≡ record { bytes = spelled_page self.now.sizes uuid.now p (bitmaps_of self.now n).set } }
+        ensures { result ≡ record {
+          bytes = spelled_page self.now.sizes uuid.now p
+              (bitmaps_of self.now n).set;
+        } }
     {
         page_of_flags(&self.geometry, uuid, p, &self.maps[n as usize])
     }
@@ -252,7 +257,8 @@ impl Bitmaps {
     pub fn new_legs(&mut self, n: NodeId, legs: u8)
         requires { n < 16 }
         ensures bits { bitmaps_of self.new
-            ≡ with_at (bitmaps_of self.old) n (with_new_legs (bitmaps_of self.old n) (has_bit legs)) }
+            ≡ with_at (bitmaps_of self.old) n
+            (with_new_legs (bitmaps_of self.old n) (has_bit legs)) }
         ensures sizes { self.new.sizes ≡ self.old.sizes }
     {
         self.maps[n as usize].new_legs(legs);
@@ -263,7 +269,9 @@ impl Bitmaps {
         requires node { n < 16 }
         requires page { p < pages_of self.old.sizes }
         ensures bits { bitmaps_of self.new
-            ≡ with_at (bitmaps_of self.old) n (found_page self.old.sizes (bitmaps_of self.old n) p (page_has self.old.sizes p page.now.bytes)) }
+            ≡ with_at (bitmaps_of self.old) n
+            (found_page self.old.sizes (bitmaps_of self.old n) p
+            (page_has self.old.sizes p page.now.bytes)) }
         ensures sizes { self.new.sizes ≡ self.old.sizes }
     {
         self.maps[n as usize].found_page(p, page);

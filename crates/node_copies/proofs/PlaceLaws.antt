@@ -10,7 +10,7 @@ use Rattle.cluster_model.specs.State.{Copy}
 use Rattle.cluster_model.specs.Copying.{next_for}
 use Rattle.node_copies.specs.Copies.{copy_of}
 use Rattle.node_copies.specs.declared.places.NodeCopy.{NodeCopy}
-use Rattle.std.specs.Prelude.{Option, Some, None, option_map}
+use Rattle.std.specs.Prelude.{Some, option_map}
 use Rattle.node_copies.specs.Places.{some_if}
 
 -- a change of the value

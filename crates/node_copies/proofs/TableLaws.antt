@@ -1,8 +1,7 @@
 -- Tables of places.
-use Rattle.std.proofs.Common.{◌≡◌, ℕ, ◌+◌, ◌<◌, inl, inr, List, [], ◌∷◌, ◌++◌, length, get_or, set, refl, sym, ap, subst, ◌∙◌, arith, length-append}
-use Rattle.std.proofs.Math.Path.{fun_ext}
-use Rattle.std.proofs.lemmas.Bool.{cases_lt, cases_eq}
-use Rattle.std.proofs.lemmas.List.{get_or_default, get_or_past, get_or_append_left, get_or_push, get_or-set_same, get_or-set_other, length-set}
+use Rattle.std.proofs.Common.{◌≡◌, ℕ, ◌+◌, ◌<◌, inl, inr, List, [], ◌∷◌, ◌++◌, get_or, set, refl, sym, ap, subst, ◌∙◌, arith, length-append}
+use Rattle.std.proofs.lemmas.Bool.{cases_lt}
+use Rattle.std.proofs.lemmas.List.{get_or_default, get_or_append_left, get_or_push}
 use Rattle.dlm_modes.specs.Points.{with_at}
 use Rattle.node_copies.specs.Places.{AreAll}
 use Rattle.node_bits.proofs.Tables.{table-call}
@@ -19,31 +18,12 @@ all_more P d k xs x all so = record {
   ];
 }
 
-pub all_set : {A : Type 0} (P : A → Type 0) (d : A) (xs : List A) (n : ℕ) (x : A) → AreAll A P d 16 xs → n < 16 → P x → AreAll A P d 16 (set xs n x)
-all_set P d xs n x all lt so = record {
-  many = length-set xs n x ∙ all.many;
-  each = λ m below. elim (cases_eq m n) [
-    | inl same ↦ subst P (sym (ap (λ k. get_or (set xs n x) k d) same ∙ get_or-set_same xs n x d (omega (arith, all.many)))) so
-    | inr other ↦ subst P (sym (get_or-set_other xs n m x d other)) (all.each m below)
-  ];
-}
-
 -- what is found at n
 pub all_at : {A : Type 0} (P : A → Type 0) (d : A) (xs : List A) (n : ℕ) (got : A) → AreAll A P d 16 xs → n < 16 → got ≡ get_or xs n got → P got
 all_at P d xs n got all lt here = subst P (sym (here ∙ get_or_default xs n got d (omega (arith, all.many)))) (all.each n lt)
 
-pub all_map : {A : Type 0} (P Q : A → Type 0) (d : A) (xs : List A) → ((x : A) → P x → Q x) → AreAll A P d 16 xs → AreAll A Q d 16 xs
-all_map P Q d xs f all = record { many = all.many; each = λ n lt. f (get_or xs n d) (all.each n lt) }
-
 pub stands_at : {A B : Type 0} (f : A → B) (P : A → Type 0) (d : A) (xs : List A) (n : ℕ) (got : A) → AreAll A P d 16 xs → n < 16 → got ≡ get_or xs n got → f got ≡ f (get_or xs n d)
 stands_at f P d xs n got all lt here = ap f (here ∙ get_or_default xs n got d (omega (arith, all.many)))
-
--- all stand for the same at first
-pub table_new : {A B : Type 0} (f : A → B) (P : A → Type 0) (d : A) (xs : List A) (b : B) → AreAll A P d 16 xs → ((x : A) → P x → f x ≡ b) → f d ≡ b → ◌≡◌ {A = ℕ → B} (λ n. f (get_or xs n d)) (λ n. b)
-table_new f P d xs b all so past = fun_ext (λ n. elim (cases_lt n 16) [
-  | inl lt ↦ so (get_or xs n d) (all.each n lt)
-  | inr over ↦ ap f (get_or_past xs n d (omega (arith, all.many))) ∙ past
-])
 
 -- a call on the place of n
 pub place_call : {A B : Type 0} (f : A → B) (P : A → Type 0) (change : B → B) (d : A) (xs : List A) (n : ℕ) (got x : A) → AreAll A P d 16 xs → n < 16 → got ≡ get_or xs n got → f x ≡ change (f got)

@@ -2,7 +2,7 @@
 use Rattle.std.specs.Prelude.{◌≡◌, ℕ, Bool, false, List, [], get_or, Option, Some, None}
 use Rattle.mdc_types.specs.Geometry.{Sizes, chunks_of, pages_of}
 use Rattle.node_recovery.specs.Progress.{Progress, Recovering, recovering_of, HasSize, unread_leg, uncleared_leg}
-use Rattle.node_copies.specs.Places.{some_if, AreAll}
+use Rattle.node_copies.specs.Places.{some_if}
 use Rattle.node_copies.specs.declared.places.NodeRecovery.{NodeRecovery}
 
 abbrev pub recovery_of : NodeRecovery → Option Recovering

@@ -92,7 +92,8 @@ impl Additions {
     /// The chunks gathered so far.
     pub fn gathered(&self, n: NodeId) -> &ChunkSet
         requires { n < 16 }
-        ensures gathered { ◌≡◌ {A = ℕ → Bool} (λ c. get_or result.now c false) (adding_of self.now n).gathering.gathered }
+        ensures gathered { ◌≡◌ {A = ℕ → Bool} (λ c. get_or result.now c false)
+            (adding_of self.now n).gathering.gathered }
         ensures chunks { length result.now ≡ chunks_of self.now.sizes }
     {
         self.places[n as usize].gathering.gathered()
@@ -101,7 +102,8 @@ impl Additions {
     /// Another addition.
     pub fn set_addition(&mut self, n: NodeId, addition: Addition)
         requires { n < 16 }
-        ensures adding { adding_of self.new ≡ with_at (adding_of self.old) n (record (adding_of self.old n) { addition = addition }) }
+        ensures adding { adding_of self.new ≡ with_at (adding_of self.old) n
+            (record (adding_of self.old n) { addition = addition }) }
         ensures sizes { self.new.sizes ≡ self.old.sizes }
     {
         self.places[n as usize].addition = addition;
@@ -111,7 +113,8 @@ impl Additions {
     /// gathered yet.
     pub fn after(&mut self, n: NodeId, wish: &Wish)
         requires { n < 16 }
-        ensures adding { adding_of self.new ≡ with_at (adding_of self.old) n (adding_after (adding_of self.old n) wish.now) }
+        ensures adding { adding_of self.new ≡ with_at (adding_of self.old) n
+            (adding_after (adding_of self.old n) wish.now) }
         ensures sizes { self.new.sizes ≡ self.old.sizes }
     {
         node_adding::after(&mut self.places[n as usize], wish);
@@ -129,10 +132,14 @@ impl Additions {
     /// The page that is due was read: its chunks are gathered too.
     pub fn gather(&mut self, n: NodeId, page: &Sector)
         requires node { n < 16 }
-        requires due { is_some (page_to_gather self.old.sizes (adding_of self.old n).gathering) ≡ true }
-        ensures adding { (d p : ℕ) → page_to_gather self.old.sizes (adding_of self.old n).gathering ≡ Some (d, p)
+        requires due { is_some (page_to_gather self.old.sizes (adding_of self.old n).gathering)
+            ≡ true }
+        ensures adding { (d p : ℕ) → page_to_gather self.old.sizes
+            (adding_of self.old n).gathering ≡ Some (d, p)
             → adding_of self.new ≡ with_at (adding_of self.old) n (record (adding_of self.old n) {
-              gathering = gathered_page (adding_of self.old n).gathering (page_has self.old.sizes p page.now.bytes) }) }
+              gathering = gathered_page (adding_of self.old n).gathering
+                  (page_has self.old.sizes p page.now.bytes);
+            }) }
         ensures sizes { self.new.sizes ≡ self.old.sizes }
     {
         node_adding::gather(&mut self.places[n as usize], page);

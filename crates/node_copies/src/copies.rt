@@ -16,7 +16,9 @@ ghost use Rattle.node_copies.specs.declared.places.NodeCopy.{NodeCopy};
 
 use crate::node_copy;
 use crate::places::{NodeCopy, Turn};
-use mdc_types::{ChunkNo, ChunkSet, Geometry, LegId, NodeId, Range, Sector, SectorNo, Word, with_leg};
+use mdc_types::{
+    ChunkNo, ChunkSet, Geometry, LegId, NodeId, Range, Sector, SectorNo, Word, with_leg,
+};
 use node_bits::Bitmaps;
 use resync_worker::Pass;
 use std::alloc::{AllocError, Global};
@@ -99,7 +101,8 @@ impl Copies {
     /// The sector that is copied next.
     pub fn next(&self, n: NodeId) -> Option<SectorNo>
         requires { n < 16 }
-        ensures value { result ≡ next_for self.now.sizes (copies_of self.now n).pass (copies_of self.now n).window }
+        ensures value { result ≡ next_for self.now.sizes (copies_of self.now n).pass
+            (copies_of self.now n).window }
         ensures range { IfSome result (λ s. s < self.now.sizes.room) }
     {
         node_copy::next_of(&self.places[n as usize])
@@ -108,7 +111,8 @@ impl Copies {
     /// The sector in the buffer, and its value.
     pub fn buffer(&self, n: NodeId) -> Option<(SectorNo, Sector)>
         requires { n < 16 }
-        ensures value { result ≡ option_map (λ b. (b.sector, b.value)) (buffer_in (copies_of self.now n).pass) }
+        ensures value { result ≡ option_map (λ b. (b.sector, b.value))
+            (buffer_in (copies_of self.now n).pass) }
         ensures range { IfSome result (λ b. b.0 < self.now.sizes.room) }
     {
         node_copy::buffer_of(&self.places[n as usize])
@@ -142,7 +146,8 @@ impl Copies {
     /// The node has asked for the lock.
     pub fn ask(&mut self, n: NodeId)
         requires { n < 16 }
-        ensures copy { copies_of self.new ≡ with_at (copies_of self.old) n (record (copies_of self.old n) { turn = Asked }) }
+        ensures copy { copies_of self.new ≡ with_at (copies_of self.old) n
+            (record (copies_of self.old n) { turn = Asked }) }
         ensures sizes { self.new.sizes ≡ self.old.sizes }
     {
         self.places[n as usize].turn = Turn::Asked;
@@ -151,7 +156,8 @@ impl Copies {
     /// The node has the lock.
     pub fn held(&mut self, n: NodeId)
         requires { n < 16 }
-        ensures copy { copies_of self.new ≡ with_at (copies_of self.old) n (record (copies_of self.old n) { turn = Held }) }
+        ensures copy { copies_of self.new ≡ with_at (copies_of self.old) n
+            (record (copies_of self.old n) { turn = Held }) }
         ensures sizes { self.new.sizes ≡ self.old.sizes }
     {
         self.places[n as usize].turn = Turn::Held;
@@ -162,7 +168,8 @@ impl Copies {
         requires node { n < 16 }
         requires sizes { bitmaps.now.sizes ≡ self.old.sizes }
         ensures copy { copies_of self.new ≡ with_at (copies_of self.old) n
-            (record (copies_of self.old n) { pass = Some (begun (bitmaps_of bitmaps.now n).need (λ l. false)) }) }
+            (record (copies_of self.old n)
+            { pass = Some (begun (bitmaps_of bitmaps.now n).need (λ l. false)) }) }
         ensures sizes { self.new.sizes ≡ self.old.sizes }
     {
         bitmaps.needed_into(n, &mut self.chunks);
@@ -173,7 +180,8 @@ impl Copies {
     pub fn begin_full(&mut self, n: NodeId, legs: u8)
         requires { n < 16 }
         ensures copy { copies_of self.new ≡ with_at (copies_of self.old) n
-            (record (copies_of self.old n) { pass = Some (begun (λ c. nat_lt c (chunks_of self.old.sizes)) (has_bit legs)) }) }
+            (record (copies_of self.old n)
+            { pass = Some (begun (λ c. nat_lt c (chunks_of self.old.sizes)) (has_bit legs)) }) }
         ensures sizes { self.new.sizes ≡ self.old.sizes }
     {
         node_copy::begin_full(&mut self.places[n as usize], legs);
@@ -185,7 +193,8 @@ impl Copies {
         requires chunks { length chunks.now ≡ chunks_of self.old.sizes }
         requires leg { l < 8 }
         ensures copy { copies_of self.new ≡ with_at (copies_of self.old) n
-            (record (copies_of self.old n) { pass = Some (begun (λ c. get_or chunks.now c false) (λ k. k == l)) }) }
+            (record (copies_of self.old n)
+            { pass = Some (begun (λ c. get_or chunks.now c false) (λ k. k == l)) }) }
         ensures sizes { self.new.sizes ≡ self.old.sizes }
     {
         node_copy::begin(&mut self.places[n as usize], chunks, with_leg(0, l));
@@ -203,7 +212,8 @@ impl Copies {
     /// The window opens, or is put in place of the one before.
     pub fn open_window(&mut self, n: NodeId, window: Option<Range>)
         requires { n < 16 }
-        ensures copy { copies_of self.new ≡ with_at (copies_of self.old) n (record (copies_of self.old n) { window = window }) }
+        ensures copy { copies_of self.new ≡ with_at (copies_of self.old) n
+            (record (copies_of self.old n) { window = window }) }
         ensures sizes { self.new.sizes ≡ self.old.sizes }
     {
         self.places[n as usize].window = window;
@@ -212,7 +222,8 @@ impl Copies {
     /// The window closes, and the buffer is dropped.
     pub fn close_window(&mut self, n: NodeId)
         requires { n < 16 }
-        ensures copy { copies_of self.new ≡ with_at (copies_of self.old) n (window_closed (copies_of self.old n)) }
+        ensures copy { copies_of self.new ≡ with_at (copies_of self.old) n
+            (window_closed (copies_of self.old n)) }
         ensures sizes { self.new.sizes ≡ self.old.sizes }
     {
         node_copy::close_window(&mut self.places[n as usize]);
@@ -223,10 +234,13 @@ impl Copies {
         requires node { n < 16 }
         requires leg { l < 8 }
         requires empty { buffer_in (copies_of self.old n).pass ≡ None }
-        requires next { IsSome (next_for self.old.sizes (copies_of self.old n).pass (copies_of self.old n).window) }
-        ensures copy { (s : ℕ) → next_for self.old.sizes (copies_of self.old n).pass (copies_of self.old n).window ≡ Some s
+        requires next { IsSome (next_for self.old.sizes (copies_of self.old n).pass
+            (copies_of self.old n).window) }
+        ensures copy { (s : ℕ) → next_for self.old.sizes (copies_of self.old n).pass
+            (copies_of self.old n).window ≡ Some s
             → copies_of self.new ≡ with_at (copies_of self.old) n
-            (record (copies_of self.old n) { pass = option_map (λ p. filled p s v.now l) (copies_of self.old n).pass }) }
+            (record (copies_of self.old n)
+            { pass = option_map (λ p. filled p s v.now l) (copies_of self.old n).pass }) }
         ensures sizes { self.new.sizes ≡ self.old.sizes }
     {
         node_copy::copied_in(&mut self.places[n as usize], v, l);
@@ -237,7 +251,8 @@ impl Copies {
         requires node { n < 16 }
         requires leg { l < 8 }
         ensures copy { copies_of self.new ≡ with_at (copies_of self.old) n
-            (record (copies_of self.old n) { pass = option_map (λ p. copied p l) (copies_of self.old n).pass }) }
+            (record (copies_of self.old n)
+            { pass = option_map (λ p. copied p l) (copies_of self.old n).pass }) }
         ensures sizes { self.new.sizes ≡ self.old.sizes }
     {
         node_copy::copied_out(&mut self.places[n as usize], l);
@@ -248,8 +263,12 @@ impl Copies {
         requires { n < 16 }
         ensures copy { (b : Buffer) → buffer_in (copies_of self.old n).pass ≡ Some b
             → copies_of self.new ≡ with_at (copies_of self.old) n
-            (record (copies_of self.old n) { pass = option_map (λ p. settled_at self.old.sizes p b) (copies_of self.old n).pass }) }
-        ensures told { (b : Buffer) → buffer_in (copies_of self.old n).pass ≡ Some b → result ≡ completes self.old.sizes b }
+            (record (copies_of self.old n) {
+              pass = option_map (λ p. settled_at self.old.sizes p b)
+                  (copies_of self.old n).pass;
+            }) }
+        ensures told { (b : Buffer) → buffer_in (copies_of self.old n).pass ≡ Some b
+            → result ≡ completes self.old.sizes b }
         ensures range { IfSome result (λ c. c < chunks_of self.old.sizes) }
         ensures sizes { self.new.sizes ≡ self.old.sizes }
     {
@@ -260,7 +279,10 @@ impl Copies {
     pub fn cover_only(&mut self, n: NodeId, legs: u8)
         requires { n < 16 }
         ensures copy { copies_of self.new ≡ with_at (copies_of self.old) n
-            (record (copies_of self.old n) { pass = option_map (λ p. covering_only p (has_bit legs)) (copies_of self.old n).pass }) }
+            (record (copies_of self.old n) {
+              pass = option_map (λ p. covering_only p (has_bit legs))
+                  (copies_of self.old n).pass;
+            }) }
         ensures sizes { self.new.sizes ≡ self.old.sizes }
     {
         node_copy::cover_only(&mut self.places[n as usize], legs);

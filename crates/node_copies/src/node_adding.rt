@@ -32,9 +32,12 @@ pub fn forget(x: &mut NodeAdding)
 
 pub fn gather(x: &mut NodeAdding, page: &Sector)
     requires { is_some (page_to_gather x.old.gathering.sizes (adding_in x.old).gathering) ≡ true }
-    ensures adding { (n p : ℕ) → page_to_gather x.old.gathering.sizes (adding_in x.old).gathering ≡ Some (n, p)
+    ensures adding { (n p : ℕ) → page_to_gather x.old.gathering.sizes (adding_in x.old).gathering
+        ≡ Some (n, p)
         → adding_in x.new ≡ record (adding_in x.old) {
-          gathering = gathered_page (adding_in x.old).gathering (page_has x.old.gathering.sizes p page.now.bytes) } }
+          gathering = gathered_page (adding_in x.old).gathering
+              (page_has x.old.gathering.sizes p page.now.bytes);
+        } }
     ensures sizes { x.new.gathering.sizes ≡ x.old.gathering.sizes }
 {
     x.gathering.add(page);

@@ -38,7 +38,8 @@ pub fn next_of(x: &NodeCopy) -> Option<SectorNo>
 }
 
 pub fn buffer_of(x: &NodeCopy) -> Option<(SectorNo, Sector)>
-    ensures value { result ≡ option_map (λ b. (b.sector, b.value)) (buffer_in (copy_of x.now).pass) }
+    ensures value { result ≡ option_map (λ b. (b.sector, b.value))
+        (buffer_in (copy_of x.now).pass) }
     ensures range { IfSome result (λ b. b.0 < x.now.pass.sizes.room) }
 {
     if x.begun { x.pass.buffer() } else { None }
@@ -70,7 +71,10 @@ pub fn has_copied(x: &NodeCopy, l: LegId) -> bool
 pub fn begin(x: &mut NodeCopy, chunks: &ChunkSet, legs: u8)
     requires { length chunks.now ≡ chunks_of x.old.pass.sizes }
     ensures copy { copy_of x.new
-        ≡ record (copy_of x.old) { pass = Some (begun (λ c. get_or chunks.now c false) (has_bit legs)) } }
+        ≡ record (copy_of x.old) {
+          pass = Some
+              (begun (λ c. get_or chunks.now c false) (has_bit legs));
+        } }
     ensures sizes { x.new.pass.sizes ≡ x.old.pass.sizes }
 {
     x.pass.again(chunks, legs);
@@ -79,7 +83,10 @@ pub fn begin(x: &mut NodeCopy, chunks: &ChunkSet, legs: u8)
 
 pub fn begin_full(x: &mut NodeCopy, legs: u8)
     ensures copy { copy_of x.new
-        ≡ record (copy_of x.old) { pass = Some (begun (λ c. nat_lt c (chunks_of x.old.pass.sizes)) (has_bit legs)) } }
+        ≡ record (copy_of x.old) {
+          pass = Some
+              (begun (λ c. nat_lt c (chunks_of x.old.pass.sizes)) (has_bit legs));
+        } }
     ensures sizes { x.new.pass.sizes ≡ x.old.pass.sizes }
 {
     x.pass.again_all(legs);
@@ -108,8 +115,10 @@ pub fn copied_in(x: &mut NodeCopy, v: &Sector, l: LegId)
     requires leg { l < 8 }
     requires empty { buffer_in (copy_of x.old).pass ≡ None }
     requires next { IsSome (next_for x.old.pass.sizes (copy_of x.old).pass (copy_of x.old).window) }
-    ensures copy { (s : ℕ) → next_for x.old.pass.sizes (copy_of x.old).pass (copy_of x.old).window ≡ Some s
-        → copy_of x.new ≡ record (copy_of x.old) { pass = option_map (λ p. filled p s v.now l) (copy_of x.old).pass } }
+    ensures copy { (s : ℕ) → next_for x.old.pass.sizes (copy_of x.old).pass (copy_of x.old).window
+        ≡ Some s
+        → copy_of x.new ≡ record (copy_of x.old)
+        { pass = option_map (λ p. filled p s v.now l) (copy_of x.old).pass } }
     ensures sizes { x.new.pass.sizes ≡ x.old.pass.sizes }
 {
     match x.window {
@@ -130,8 +139,10 @@ pub fn copied_out(x: &mut NodeCopy, l: LegId)
 
 pub fn settled(x: &mut NodeCopy) -> Option<ChunkNo>
     ensures copy { (b : Buffer) → buffer_in (copy_of x.old).pass ≡ Some b
-        → copy_of x.new ≡ record (copy_of x.old) { pass = option_map (λ p. settled_at x.old.pass.sizes p b) (copy_of x.old).pass } }
-    ensures told { (b : Buffer) → buffer_in (copy_of x.old).pass ≡ Some b → result ≡ completes x.old.pass.sizes b }
+        → copy_of x.new ≡ record (copy_of x.old)
+        { pass = option_map (λ p. settled_at x.old.pass.sizes p b) (copy_of x.old).pass } }
+    ensures told { (b : Buffer) → buffer_in (copy_of x.old).pass ≡ Some b
+        → result ≡ completes x.old.pass.sizes b }
     ensures range { IfSome result (λ c. c < chunks_of x.old.pass.sizes) }
     ensures sizes { x.new.pass.sizes ≡ x.old.pass.sizes }
 {
@@ -141,7 +152,10 @@ pub fn settled(x: &mut NodeCopy) -> Option<ChunkNo>
 #[tactic(auto, using(crate::proofs::PlaceLaws::mapped))]
 pub fn cover_only(x: &mut NodeCopy, legs: u8)
     ensures copy { copy_of x.new
-        ≡ record (copy_of x.old) { pass = option_map (λ p. covering_only p (has_bit legs)) (copy_of x.old).pass } }
+        ≡ record (copy_of x.old) {
+          pass = option_map (λ p. covering_only p (has_bit legs))
+              (copy_of x.old).pass;
+        } }
     ensures sizes { x.new.pass.sizes ≡ x.old.pass.sizes }
 {
     x.pass.cover_only(legs);

@@ -58,7 +58,8 @@ pub fn note_page(g: &Geometry, x: &mut NodeRecovery, p: PageNo, page: &Sector, l
     requires leg { l < 8 }
     requires size { HasSize x.old.recovery (pages_of g.now) (chunks_of g.now) }
     ensures recovery { recovery_of x.new
-        ≡ option_map (λ r. with_found (with_read r p l) (page_has g.now p page.now.bytes)) (recovery_of x.old) }
+        ≡ option_map (λ r. with_found (with_read r p l) (page_has g.now p page.now.bytes))
+        (recovery_of x.old) }
     ensures size { HasSize x.new.recovery (pages_of g.now) (chunks_of g.now) }
 {
     x.recovery.slot_read(p, l);
@@ -69,7 +70,8 @@ pub fn note_page(g: &Geometry, x: &mut NodeRecovery, p: PageNo, page: &Sector, l
 pub fn cleared(x: &mut NodeRecovery, p: PageNo, l: LegId)
     requires page { p < pages_in x.old.recovery }
     requires leg { l < 8 }
-    ensures recovery { recovery_of x.new ≡ option_map (λ r. with_cleared r p l) (recovery_of x.old) }
+    ensures recovery { recovery_of x.new ≡ option_map (λ r. with_cleared r p l)
+        (recovery_of x.old) }
     ensures size { HasSize x.new.recovery (pages_in x.old.recovery) (chunks_in x.old.recovery) }
 {
     x.recovery.slot_cleared(p, l);

@@ -94,7 +94,8 @@ impl Recoveries {
     /// The least leg of the set from which a page wasn't read. None where there is no recovery.
     pub fn unread_leg(&self, n: NodeId, working: u8) -> Option<LegId>
         requires { n < 16 }
-        ensures { result ≡ first_unread self.now.sizes (recoveries_of self.now n) (has_bit working) }
+        ensures { result ≡ first_unread self.now.sizes (recoveries_of self.now n)
+            (has_bit working) }
     {
         node_rec::first_unread(&self.geometry, &self.places[n as usize], working)
     }
@@ -102,7 +103,8 @@ impl Recoveries {
     /// The least leg of the set on which a page wasn't cleared. None where there is no recovery.
     pub fn uncleared_leg(&self, n: NodeId, targets: u8) -> Option<LegId>
         requires { n < 16 }
-        ensures { result ≡ first_uncleared self.now.sizes (recoveries_of self.now n) (has_bit targets) }
+        ensures { result ≡ first_uncleared self.now.sizes (recoveries_of self.now n)
+            (has_bit targets) }
     {
         node_rec::first_uncleared(&self.geometry, &self.places[n as usize], targets)
     }
@@ -110,7 +112,8 @@ impl Recoveries {
     /// The chunks that the node's recovery found. They mean nothing where there is no recovery.
     pub fn found(&self, n: NodeId) -> &ChunkSet
         requires { n < 16 }
-        ensures found { (r : Recovering) → recoveries_of self.now n ≡ Some r → ◌≡◌ {A = ℕ → Bool} (λ c. get_or result.now c false) r.found }
+        ensures found { (r : Recovering) → recoveries_of self.now n ≡ Some r
+            → ◌≡◌ {A = ℕ → Bool} (λ c. get_or result.now c false) r.found }
         ensures chunks { length result.now ≡ chunks_of self.now.sizes }
     {
         self.places[n as usize].recovery.found()
@@ -120,7 +123,8 @@ impl Recoveries {
     pub fn begin(&mut self, n: NodeId, d: NodeId)
         requires node { n < 16 }
         requires slot { d < 16 }
-        ensures recovery { recoveries_of self.new ≡ with_at (recoveries_of self.old) n (Some (begun d)) }
+        ensures recovery { recoveries_of self.new
+            ≡ with_at (recoveries_of self.old) n (Some (begun d)) }
         ensures sizes { self.new.sizes ≡ self.old.sizes }
     {
         node_rec::begin(&mut self.places[n as usize], d);
@@ -143,7 +147,8 @@ impl Recoveries {
         requires slot { p < slot_pages self.old.sizes }
         requires leg { l < 8 }
         ensures recovery { recoveries_of self.new ≡ with_at (recoveries_of self.old) n
-            (option_map (λ r. with_found (with_read r p l) (page_has self.old.sizes p page.now.bytes)) (recoveries_of self.old n)) }
+            (option_map (λ r. with_found (with_read r p l)
+            (page_has self.old.sizes p page.now.bytes)) (recoveries_of self.old n)) }
         ensures sizes { self.new.sizes ≡ self.old.sizes }
     {
         node_rec::note_page(&self.geometry, &mut self.places[n as usize], p, page, l);

@@ -1,36 +1,29 @@
 -- What a row tells whose guards refuse nothing, at a place where all is ready.
-use Rattle.std.proofs.Common.{◌≡◌, ℕ, ◌+◌, ◌-◌, ◌&&◌, ◌||◌, ◌<◌, ◌≤◌, ◌==◌, nat_lt, Bool, true, false, not, Option, Some, None, List, [], refl, sym, ap, subst, ◌∙◌, arith}
-use Rattle.std.specs.Prelude.{is_some, IsSome, option_map, nat_le, if◌then◌else◌}
+use Rattle.std.proofs.Common.{◌≡◌, ℕ, ◌+◌, ◌-◌, ◌&&◌, ◌||◌, ◌<◌, ◌≤◌, ◌==◌, Bool, true, false, Option, Some, None, [], refl, sym, ap, subst, ◌∙◌, arith}
+use Rattle.std.specs.Prelude.{IsSome, option_map, nat_le, if◌then◌else◌}
 use Rattle.std.proofs.lemmas.Bool.{ltb-true}
 use Rattle.std.proofs.lemmas.Bool.Decides.{nat_tests}
 use Rattle.dlm_modes.specs.declared.mode.Mode.{Mode}
 use Rattle.dlm_modes.specs.declared.mode.Mode.TheVariants.{PW, EX}
-use Rattle.dlm_space.specs.Locks.{Lock, ask_refusal, ask_now_refusal, release_refusal}
+use Rattle.dlm_space.specs.Locks.{Lock, ask_refusal, release_refusal}
 use Rattle.dlm_space.specs.Queues.{asks_of}
-use Rattle.mdc_types.specs.Geometry.{Sizes, IsGeometry, nodes_of, pages_of, slot_pages, chunks_of, parts_of}
-use Rattle.mdc_types.specs.declared.events.Event.{Event}
-use Rattle.mdc_types.specs.declared.events.Event.TheVariants.{AskResync, Gather, PassOwn, PassFull, PassAgain, CopyIn, CopyOut, Settle, EndPass, Recover, SlotIn, SlotOut, Recovered}
+use Rattle.mdc_types.specs.Geometry.{Sizes, nodes_of, pages_of, slot_pages, chunks_of, parts_of}
+use Rattle.mdc_types.specs.declared.events.Event.TheVariants.{AskResync, EndPass}
 use Rattle.mdc_types.specs.declared.numbers.Range.{Range}
-use Rattle.mdc_types.specs.declared.numbers.Sector.{Sector}
-use Rattle.mdc_types.specs.declared.refusals.Refusal.TheVariants.{NoNode, NoPage, NoLeg, NotPending, HeirPending, NothingLeft}
-use Rattle.mdc_types.specs.declared.roles.NodeState.{NodeState}
-use Rattle.leg_failure.specs.Views.{working_leg}
-use Rattle.node_member.specs.Members.{Members, begin_refusal, heir_refusal}
+use Rattle.mdc_types.specs.declared.refusals.Refusal.TheVariants.{NoNode, NoPage, NoLeg}
 use Rattle.node_recovery.specs.Progress.{Recovering}
 use Rattle.resync_worker.specs.Copying.{Passing}
 use Rattle.resync_worker.specs.declared.buffer.Buffer.{Buffer}
-use Rattle.cluster_model.specs.State.{Core, Turn, NotAsked, Asked, Held, Copy, sizes}
+use Rattle.cluster_model.specs.State.{Core, Turn, NotAsked, Asked, Held, sizes}
 use Rattle.cluster_model.specs.Guards.{no_node, no_page, no_leg}
-use Rattle.cluster_model.specs.Phases.{needs_up, is_up, is_in, turn_word, pass_word, buffer_word, window_word, copy_word, recovery_word, is_none, is_window, is_buffer, is_open}
+use Rattle.cluster_model.specs.Phases.{turn_word, pass_word, buffer_word, copy_word, is_buffer}
 use Rattle.cluster_model.specs.Changes.{resync_res}
-use Rattle.cluster_model.specs.Copying.{buffer_in, buffer_of, next_sector, ci_guards, co_guards, settle_guards}
-use Rattle.cluster_model.specs.Gathering.{due_page, gather_guards}
-use Rattle.cluster_model.specs.Passes.{resync_guards, pass_guards, pass_again_guards, done_guards}
-use Rattle.cluster_model.specs.Recovering.{rec_guards, slotin_guards, slotout_guards, recovered_guards, pending_heir}
+use Rattle.cluster_model.specs.Copying.{buffer_in, buffer_of}
+use Rattle.cluster_model.specs.Passes.{resync_guards, done_guards}
 use Rattle.cluster_model.specs.Table.{refusal}
-use Rattle.laws_locks.specs.Others.{recovers, turn_held, turn_request, has_slot, writes_slot}
+use Rattle.laws_locks.specs.Others.{recovers, turn_held, turn_request, writes_slot}
 use Rattle.laws_locks.proofs.Words.{no_turn, lock_held}
-use Rattle.laws_sound.proofs.Guarded.{all_none, unless_none, found_none}
+use Rattle.laws_sound.proofs.Guarded.{all_none, unless_none}
 use Rattle.world_state.specs.Ready.{Ready}
 
 -- Numbers.
@@ -66,13 +59,6 @@ leg_is core l ready e =
     let lt = ltb-true l core.array.sizes.legs (unless_none _ (NoLeg l) e) in
     let few = ready.range.legs.sizes_fit.legs.1 in
     omega arith
-
--- an up node reads from some leg
-up_in : (s : NodeState) → is_up s ≡ true → is_in s ≡ true
-up_in s e = grind arith
-
-pub reads_some : (core : Core) (n : ℕ) → Ready core → needs_up core n ≡ None → IsSome (working_leg (core.view n))
-reads_some core n ready e = ready.leg.leg n (up_in (core.state n) (unless_none _ _ e))
 
 -- The lock `resync`.
 
@@ -110,31 +96,8 @@ buffer_turn NotAsked p w e = cc
 buffer_turn Asked p w e = cc
 buffer_turn Held p w e = buffer_pass p w e
 
-no_buffer : (x : Option Buffer) (w : Option Range) → is_window (buffer_word x w) ≡ true → x ≡ None
-no_buffer None w e = refl
-no_buffer (Some b) w e = cc
-
-empty_pass : (p : Option Passing) (w : Option Range) → is_window (pass_word p w) ≡ true → buffer_in p ≡ None
-empty_pass None w e = refl
-empty_pass (Some p) w e = no_buffer p.buffer w e
-
-empty_turn : (t : Turn) (p : Option Passing) (w : Option Range) → is_window (turn_word t p w) ≡ true → buffer_in p ≡ None
-empty_turn NotAsked p w e = cc
-empty_turn Asked p w e = cc
-empty_turn Held p w e = empty_pass p w e
-
 pub has_buffer : (core : Core) (n : ℕ) → is_buffer (copy_word (core.copy n)) ≡ true → IsSome (buffer_of core n)
 has_buffer core n e = buffer_turn (core.copy n).turn (core.copy n).pass (core.copy n).window e
-
-pub has_none : (core : Core) (n : ℕ) → is_window (copy_word (core.copy n)) ≡ true → buffer_of core n ≡ None
-has_none core n e = empty_turn (core.copy n).turn (core.copy n).pass (core.copy n).window e
-
-open_some : (x : Option Recovering) → is_open (recovery_word x) ≡ true → IsSome x
-open_some None e = cc
-open_some (Some r) e = refl
-
-pub recovers_some : (core : Core) (n : ℕ) → is_open (recovery_word (core.recovery n)) ≡ true → IsSome (core.recovery n)
-recovers_some core n e = open_some (core.recovery n) e
 
 -- The recovery's slot.
 
@@ -166,10 +129,3 @@ or_true false x e = rw e refl
 pub slot_held : (core : Core) (n d : ℕ) → Ready core → d < 16 → option_map (λ (r : Recovering). r.slot) (core.recovery n) ≡ Some d → release_refusal (core.locks d) n ≡ None
 slot_held core n d ready lt e =
     may_release (core.locks d) n PW (ready.others.slots.held n d lt ∙ or_true ((n == d) && core.members.live n) (recovers (core.recovery n) d) (slot_at (core.recovery n) d e))
-
-heir_free : (m : Members) (x : Option ℕ) → pending_heir m x ≡ None → heir_refusal m x ≡ None
-heir_free m None e = refl
-heir_free m (Some h) e = let free = unless_none (not (m.pending h)) (HeirPending h) e in rw free refl
-
-pub may_begin : (m : Members) (d : ℕ) → m.pending d ≡ true → pending_heir m (m.heir d) ≡ None → begin_refusal m d ≡ None
-may_begin m d p e = rw p (heir_free m (m.heir d) e)

@@ -1,19 +1,15 @@
 -- The core after a change of one of its tables.
-use Rattle.std.proofs.Common.{◌≡◌, ℕ, ◌==◌, ◌<◌, nat_lt, Bool, true, false, inl, inr, List, length, get_or, replicate, refl, sym, ap, ◌∙◌, arith}
+use Rattle.std.proofs.Common.{◌≡◌, ℕ, ◌==◌, nat_lt, Bool, true, false, List, get_or, refl, sym, ap, ◌∙◌, arith}
 use Rattle.std.specs.Prelude.{IsSome, Option, Some, None, option_map, if◌then◌else◌, Result, Ok, Err, OnOk}
 use Rattle.std.specs.Result.{result_err}
 use Rattle.std.proofs.Math.Path.{fun_ext}
 use Rattle.std.proofs.lemmas.Bool.Decides.{nat_tests}
-use Rattle.std.proofs.lemmas.Bool.{cases_lt}
-use Rattle.std.proofs.lemmas.List.{length-replicate, get_or-replicate, get_or_past}
 use Rattle.dlm_modes.specs.Points.{with_at}
 use Rattle.dlm_space.specs.Locks.{Lock, released, let_go, with_value, is_writer, mode_of}
 use Rattle.dlm_space.specs.Parts.{Part, locks_of}
-use Rattle.mdc_types.specs.Geometry.{Sizes, chunks_of, page_of}
-use Rattle.mdc_types.specs.Roles.{role_of, is_rebuilding, legs_with}
-use Rattle.mdc_types.specs.declared.roles.Roles.{Roles}
+use Rattle.mdc_types.specs.Geometry.{Sizes, chunks_of}
 use Rattle.mdc_types.specs.declared.numbers.Sector.{Sector}
-use Rattle.node_bitmaps.specs.Bitmap.{Bitmap, with_need}
+use Rattle.node_bitmaps.specs.Bitmap.{Bitmap}
 use Rattle.node_bits.specs.Bitmaps.{Maps, bitmaps_of}
 use Rattle.node_copies.specs.Copies.{Copyings, copies_of}
 use Rattle.node_copies.specs.Recoveries.{Progresses, recoveries_of}
@@ -21,7 +17,6 @@ use Rattle.node_copies.specs.Additions.{Addings, adding_of}
 use Rattle.node_member.specs.Members.{Members}
 use Rattle.node_member.specs.Parts as members
 use Rattle.node_recovery.specs.Progress.{Recovering}
-use Rattle.resync_worker.specs.Copying.{Passing}
 use Rattle.resync_worker.specs.declared.buffer.Buffer.{Buffer}
 use Rattle.dlm_space.specs.Locks.{holding, asked}
 use Rattle.dlm_modes.specs.declared.mode.Mode.TheVariants.{PW, EX}
@@ -36,7 +31,7 @@ use Rattle.cluster_model.specs.Changes.{headed, resync_res, with_copy, no_copy}
 use Rattle.cluster_model.specs.Copying.{next_sector, with_pass, filled_with, copied_in, buffer_sector, need_met, settle_buffer}
 use Rattle.cluster_model.specs.Gathering.{due_page, page_gathered}
 use Rattle.cluster_model.specs.Passes.{begin_pass, pass_again, ask_resync, end_pass}
-use Rattle.cluster_model.specs.Recovering.{recover, page_found, page_cleared, slot_recovered}
+use Rattle.cluster_model.specs.Recovering.{recover, page_found, page_cleared}
 use Rattle.world_repair.specs.Added.{with_page_added}
 use Rattle.cluster_model.specs.State.{Core, Copy, Adding, Asked, sizes}
 use Rattle.world_state.specs.Kept.{Kept, core_of}
@@ -77,15 +72,10 @@ released-none lock n = by_writer lock n (is_writer (mode_of lock n))
 pub same_at : {A : Type 0} (f : ℕ → A) (n : ℕ) → f ≡ with_at f n (f n)
 same_at f n = fun_ext (λ m. grind (arith, nat_tests))
 
-
 pub same_bits : (core : Core) (n : ℕ) → core ≡ record core { bitmap = with_at core.bitmap n (core.bitmap n) }
 same_bits core n = ap (λ (f : ℕ → Bitmap). record core { bitmap = f }) (same_at core.bitmap n)
 
 module _ (k : Kept) where
-  pub locks_let_go : (now : List Part) (res n : ℕ) → locks_of now ≡ with_at (locks_of k.space) res (released (locks_of k.space res) n None)
-      → core_of (record k { space = now }) ≡ record (core_of k) { locks = with_at (core_of k).locks res (let_go ((core_of k).locks res) n) }
-  locks_let_go now res n e = locks_are k now _ (e ∙ ap (with_at (locks_of k.space) res) (released-none (locks_of k.space res) n))
-
   pub full_are : (now : Copyings) (n : ℕ) (legs : ℕ → Bool) → k.copies.sizes ≡ k.identity.geometry
       → copies_of now ≡ with_at (copies_of k.copies) n (record (copies_of k.copies n) { pass = Some (begun (λ c. nat_lt c (chunks_of k.copies.sizes)) legs) })
       → core_of (record k { copies = now }) ≡ begin_pass (core_of k) n (λ c. nat_lt c (chunks_of (sizes (core_of k)))) legs
@@ -105,16 +95,6 @@ module _ (k : Kept) where
   adding_due now n v same f d p is =
       adding_are k now _ (f d p (ap (λ (g : Sizes). page_to_gather g (adding_of k.additions n).gathering) same ∙ is)
       ∙ ap (λ (g : Sizes). with_at (adding_of k.additions) n (record (adding_of k.additions n) { gathering = gathered_page (adding_of k.additions n).gathering (page_has g p v.bytes) })) same)
-
--- no chunk of so many
-none_at : (n c : ℕ) → get_or (replicate n false) c false ≡ false
-none_at n c = elim (cases_lt c n) [
-  | inl lt ↦ get_or-replicate n c false false lt
-  | inr past ↦ let long = length-replicate n false in get_or_past (replicate n false) c false (rw long past)
-]
-
-pub no_chunks : (n : ℕ) → ◌≡◌ {A = ℕ → Bool} (λ c. get_or (replicate n false) c false) (λ c. false)
-no_chunks n = fun_ext (none_at n)
 
 -- One change after another.
 
@@ -172,9 +152,3 @@ lock_asked a b c n e f = rw (f, e) refl
 pub pass_ended : (a b c : Core) (n : ℕ) → b ≡ record a { locks = with_at a.locks resync_res (let_go (a.locks resync_res) n) }
     → c ≡ with_copy b n no_copy → c ≡ end_pass a n
 pass_ended a b c n e f = rw (f, e) refl
-
-pub recovery_ended : (a b : Core) (n d : ℕ) (x : Option Recovering) → option_map (λ (r : Recovering). r.slot) x ≡ Some d
-    → b ≡ record a { members = ends a.members d; recovery = with_at a.recovery n None; locks = with_at a.locks d (let_go (a.locks d) n) }
-    → b ≡ slot_recovered a n x
-recovery_ended a b n d None is e = cc
-recovery_ended a b n d (Some r) is e = let same : r.slot ≡ d = cc in e ∙ rw same refl

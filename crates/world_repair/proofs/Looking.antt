@@ -1,9 +1,9 @@
 -- What was looked up is what the machine looks up.
-use Rattle.std.proofs.Common.{◌≡◌, ℕ, Bool, true, false, refl, sym, ap, ◌∙◌, Option, Some, None}
+use Rattle.std.proofs.Common.{◌≡◌, ℕ, Bool, true, refl, ap, ◌∙◌, Option, Some, None}
 use Rattle.std.specs.Prelude.{option_map, is_some}
 use Rattle.leg_failure.specs.Views.{works, is_target}
 use Rattle.node_bitmaps.specs.Bitmap.{unmarked_target_of}
-use Rattle.node_recovery.specs.Progress.{Recovering, first_found_needed, unread_leg, uncleared_leg}
+use Rattle.node_recovery.specs.Progress.{Recovering, unread_leg, uncleared_leg}
 use Rattle.node_copies.specs.Recoveries.{first_unread, first_uncleared}
 use Rattle.resync_worker.specs.Copying.{missing_of, missing_target}
 use Rattle.resync_worker.specs.declared.buffer.Buffer.{Buffer}
@@ -11,7 +11,7 @@ use Rattle.cluster_model.specs.State.{Core, sizes}
 use Rattle.mdc_types.specs.declared.numbers.Sector.{Sector}
 use Rattle.mdc_types.specs.declared.outcomes.Outcome.TheVariants.{Done, Settled}
 use Rattle.cluster_model.specs.Copying.{uncopied_target, settled_with}
-use Rattle.cluster_model.specs.Recovering.{leg_unread, leg_unmarked, leg_uncleared, chunk_needed}
+use Rattle.cluster_model.specs.Recovering.{leg_unread, leg_unmarked, leg_uncleared}
 
 pub some_map : {A B : Type 0} (f : A → B) (x : Option A) → is_some (option_map f x) ≡ is_some x
 some_map f None = refl
@@ -33,14 +33,6 @@ pub unmarked_is : (core : Core) (n : ℕ) (x : Option Recovering) (legs : ℕ �
     → ((r : Recovering) → x ≡ Some r → got ≡ unmarked_target_of (sizes core) (core.bitmap n) legs r.found) → got ≡ leg_unmarked core n x
 unmarked_is core n None legs got there e is = cc
 unmarked_is core n (Some r) legs got there e is = is r refl ∙ ap (λ f. unmarked_target_of (sizes core) (core.bitmap n) f r.found) e
-
-pub needed_is : (core : Core) (n : ℕ) (x : Option Recovering) (got : Option ℕ) → is_some x ≡ true
-    → ((r : Recovering) → x ≡ Some r → got ≡ first_found_needed (sizes core) r (core.bitmap n).need) → got ≡ chunk_needed core n x
-needed_is core n None got there is = cc
-needed_is core n (Some r) got there is = is r refl
-
-pub not_there : (b : Bool) → b ≡ true → b ≡ false → ⊥
-not_there b e f = cc
 
 pub told_none : (x : Option Buffer) → option_map {U = ℕ × Sector} (λ (b : Buffer). (b.sector, b.value)) x ≡ None → settled_with x ≡ Done
 told_none None e = refl

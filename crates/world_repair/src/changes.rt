@@ -37,7 +37,9 @@ pub fn ask_lock(core: &mut CoreState, n: NodeId)
     requires node { n < 16 }
     requires free { ask_refusal ((core_of core.old).locks resync_res) n ≡ None }
     ensures { core_of core.new ≡ record (core_of core.old) {
-      locks = with_at (core_of core.old).locks resync_res (asked ((core_of core.old).locks resync_res) n EX) } }
+      locks = with_at (core_of core.old).locks resync_res
+          (asked ((core_of core.old).locks resync_res) n EX);
+    } }
 {
     let _ = core.space.ask(n, 20, Mode::EX);
 }
@@ -48,7 +50,9 @@ fn release(core: &mut CoreState, n: NodeId, res: usize)
     requires res { res < 21 }
     requires held { release_refusal ((core_of core.old).locks res) n ≡ None }
     ensures { core_of core.new ≡ record (core_of core.old) {
-      locks = with_at (core_of core.old).locks res (released ((core_of core.old).locks res) n None) } }
+      locks = with_at (core_of core.old).locks res
+          (released ((core_of core.old).locks res) n None);
+    } }
 {
     let _ = core.space.release(n, res, None);
 }
@@ -59,7 +63,8 @@ pub fn let_go(core: &mut CoreState, n: NodeId, res: usize)
     requires res { res < 21 }
     requires held { release_refusal ((core_of core.old).locks res) n ≡ None }
     ensures { core_of core.new ≡ record (core_of core.old) {
-      locks = with_at (core_of core.old).locks res (let_go ((core_of core.old).locks res) n) } }
+      locks = with_at (core_of core.old).locks res (let_go ((core_of core.old).locks res) n);
+    } }
 {
     release(core, n, res);
 }
@@ -71,7 +76,8 @@ pub fn lock_bitmap(core: &mut CoreState, n: NodeId, d: NodeId)
     requires slot { d < 16 }
     requires free { ask_now_refusal ((core_of core.old).locks d) n PW ≡ None }
     ensures { core_of core.new ≡ record (core_of core.old) {
-      locks = with_at (core_of core.old).locks d (holding ((core_of core.old).locks d) n PW) } }
+      locks = with_at (core_of core.old).locks d (holding ((core_of core.old).locks d) n PW);
+    } }
 {
     let _ = core.space.ask_now(n, d as usize, Mode::PW);
 }
@@ -82,7 +88,8 @@ pub fn lock_bitmap(core: &mut CoreState, n: NodeId, d: NodeId)
 #[tactic(auto, using(crate::proofs::Changing::copies_are))]
 pub fn asked(core: &mut CoreState, n: NodeId)
     requires { n < 16 }
-    ensures { core_of core.new ≡ with_copy (core_of core.old) n (record ((core_of core.old).copy n) { turn = Asked }) }
+    ensures { core_of core.new ≡ with_copy (core_of core.old) n
+        (record ((core_of core.old).copy n) { turn = Asked }) }
 {
     core.copies.ask(n);
 }
@@ -108,7 +115,8 @@ pub fn begin_own(core: &mut CoreState, n: NodeId)
 // The legs that rebuild by the node's view, one bit each.
 fn rebuilding_legs(core: &CoreState, n: NodeId) -> u8
     requires { n < nodes_of core.now.identity.geometry }
-    ensures { ◌≡◌ {A = ℕ → Bool} (has_bit result) (λ l. is_rebuilding (((core_of core.now).view n).role l)) }
+    ensures { ◌≡◌ {A = ℕ → Bool} (has_bit result)
+        (λ l. is_rebuilding (((core_of core.now).view n).role l)) }
 {
     rebuilding_of(core.view(n).roles())
 }
@@ -118,7 +126,8 @@ fn rebuilding_legs(core: &CoreState, n: NodeId) -> u8
 fn full(core: &mut CoreState, n: NodeId, legs: u8)
     requires { n < 16 }
     ensures { core_of core.new
-        ≡ begin_pass (core_of core.old) n (λ c. nat_lt c (chunks_of (sizes (core_of core.old)))) (has_bit legs) }
+        ≡ begin_pass (core_of core.old) n (λ c. nat_lt c (chunks_of (sizes (core_of core.old))))
+        (has_bit legs) }
 {
     core.copies.begin_full(n, legs);
 }
@@ -139,8 +148,7 @@ pub fn begin_again(core: &mut CoreState, n: NodeId, l: LegId)
     requires leg { l < 8 }
     ensures { core_of core.new ≡ pass_again (core_of core.old) n l }
 {
-    core.copies
-        .begin_again(n, core.additions.gathered(n), l);
+    core.copies.begin_again(n, core.additions.gathered(n), l);
 }
 
 // The next sector was read.
@@ -199,7 +207,8 @@ pub fn out_of_buffer(core: &mut CoreState, n: NodeId, l: LegId)
 fn add(core: &mut CoreState, n: NodeId, page: &Sector)
     requires node { n < 16 }
     requires due { IsSome (due_page (core_of core.old) n) }
-    ensures { (d p : ℕ) → due_page (core_of core.old) n ≡ Some (d, p) → core_of core.new ≡ with_page_added (core_of core.old) n p page.now }
+    ensures { (d p : ℕ) → due_page (core_of core.old) n ≡ Some (d, p)
+        → core_of core.new ≡ with_page_added (core_of core.old) n p page.now }
 {
     core.additions.gather(n, page);
 }
@@ -219,7 +228,8 @@ fn need_met(core: &mut CoreState, n: NodeId, c: Option<ChunkNo>)
     requires node { n < 16 }
     requires chunk { IfSome c (λ k. k < chunks_of (sizes (core_of core.old))) }
     ensures { core_of core.new ≡ record (core_of core.old) {
-      bitmap = with_at (core_of core.old).bitmap n (need_met ((core_of core.old).bitmap n) c) } }
+      bitmap = with_at (core_of core.old).bitmap n (need_met ((core_of core.old).bitmap n) c);
+    } }
 {
     if let Some(c) = c {
         core.bitmaps.settled(n, c);
@@ -231,8 +241,10 @@ fn need_met(core: &mut CoreState, n: NodeId, c: Option<ChunkNo>)
 fn empty_buffer(core: &mut CoreState, n: NodeId) -> Option<ChunkNo>
     requires { n < 16 }
     ensures core { (b : Buffer) → buffer_of (core_of core.old) n ≡ Some b
-        → core_of core.new ≡ with_pass (core_of core.old) n (λ p. settled_at (sizes (core_of core.old)) p b) }
-    ensures told { (b : Buffer) → buffer_of (core_of core.old) n ≡ Some b → result ≡ completes (sizes (core_of core.old)) b }
+        → core_of core.new ≡ with_pass (core_of core.old) n
+        (λ p. settled_at (sizes (core_of core.old)) p b) }
+    ensures told { (b : Buffer) → buffer_of (core_of core.old) n ≡ Some b
+        → result ≡ completes (sizes (core_of core.old)) b }
     ensures range { IfSome result (λ c. c < chunks_of (sizes (core_of core.old))) }
     ensures sizes { sizes (core_of core.new) ≡ sizes (core_of core.old) }
 {
@@ -257,7 +269,8 @@ fn begin_members(core: &mut CoreState, n: NodeId, d: NodeId)
     requires node { n < 16 }
     requires slot { d < 16 }
     requires pending { begin_refusal (core_of core.old).members d ≡ None }
-    ensures { core_of core.new ≡ record (core_of core.old) { members = begun (core_of core.old).members n d } }
+    ensures { core_of core.new ≡ record (core_of core.old)
+        { members = begun (core_of core.old).members n d } }
 {
     let _ = core.members.begin(n, d);
 }
@@ -267,7 +280,8 @@ fn begin_recovery(core: &mut CoreState, n: NodeId, d: NodeId)
     requires node { n < 16 }
     requires slot { d < 16 }
     ensures { core_of core.new ≡ record (core_of core.old) {
-      recovery = with_at (core_of core.old).recovery n (Some (new_recovery d)) } }
+      recovery = with_at (core_of core.old).recovery n (Some (new_recovery d));
+    } }
 {
     core.recoveries.begin(n, d);
 }
@@ -290,8 +304,10 @@ fn find(core: &mut CoreState, n: NodeId, p: PageNo, page: &Sector)
     requires node { n < 16 }
     requires page { p < pages_of (sizes (core_of core.old)) }
     ensures { core_of core.new ≡ record (core_of core.old) {
-      bitmap = with_at (core_of core.old).bitmap n (found_page (sizes (core_of core.old)) ((core_of core.old).bitmap n) p
-          (page_has (sizes (core_of core.old)) p page.now.bytes)) } }
+      bitmap = with_at (core_of core.old).bitmap n
+          (found_page (sizes (core_of core.old)) ((core_of core.old).bitmap n) p
+          (page_has (sizes (core_of core.old)) p page.now.bytes));
+    } }
 {
     core.bitmaps.found_page(n, p, page);
 }
@@ -304,7 +320,10 @@ fn note(core: &mut CoreState, n: NodeId, p: PageNo, l: LegId, page: &Sector)
     requires leg { l < 8 }
     ensures { core_of core.new ≡ record (core_of core.old) {
       recovery = with_at (core_of core.old).recovery n (option_map
-          (λ r. with_found (with_read r p l) (page_has (sizes (core_of core.old)) p page.now.bytes)) ((core_of core.old).recovery n)) } }
+          (λ r. with_found (with_read r p l)
+          (page_has (sizes (core_of core.old)) p page.now.bytes))
+          ((core_of core.old).recovery n));
+    } }
 {
     core.recoveries.note_page(n, p, page, l);
 }
@@ -348,7 +367,9 @@ fn cleared(core: &mut CoreState, n: NodeId, p: PageNo, l: LegId)
     requires page { p < pages_of (sizes (core_of core.old)) }
     requires leg { l < 8 }
     ensures { core_of core.new ≡ record (core_of core.old) {
-      recovery = with_at (core_of core.old).recovery n (option_map (λ r. with_cleared r p l) ((core_of core.old).recovery n)) } }
+      recovery = with_at (core_of core.old).recovery n
+          (option_map (λ r. with_cleared r p l) ((core_of core.old).recovery n));
+    } }
 {
     core.recoveries.slot_cleared(n, p, l);
 }
@@ -371,7 +392,8 @@ pub fn page_tried(core: &mut CoreState, n: NodeId, p: PageNo, l: LegId)
     requires node { n < 16 }
     requires page { p < pages_of (sizes (core_of core.old)) }
     requires leg { l < 8 }
-    ensures { core_of core.new ≡ slot_failed (core_of core.old) p l ((core_of core.old).recovery n) }
+    ensures { core_of core.new ≡ slot_failed (core_of core.old) p l
+        ((core_of core.old).recovery n) }
 {
     if let Some(d) = looks::slot(core, n) {
         failed(core, d, p, l);
@@ -382,7 +404,8 @@ pub fn page_tried(core: &mut CoreState, n: NodeId, p: PageNo, l: LegId)
 fn end_members(core: &mut CoreState, d: NodeId)
     requires slot { d < 16 }
     requires pending { (core_of core.old).members.pending d ≡ true }
-    ensures { core_of core.new ≡ record (core_of core.old) { members = ended (core_of core.old).members d } }
+    ensures { core_of core.new ≡ record (core_of core.old)
+        { members = ended (core_of core.old).members d } }
 {
     core.members.recovered(d);
 }
@@ -390,7 +413,8 @@ fn end_members(core: &mut CoreState, d: NodeId)
 #[tactic(auto, using(crate::proofs::Changing::recoveries_are))]
 fn close(core: &mut CoreState, n: NodeId)
     requires { n < 16 }
-    ensures { core_of core.new ≡ record (core_of core.old) { recovery = with_at (core_of core.old).recovery n None } }
+    ensures { core_of core.new ≡ record (core_of core.old)
+        { recovery = with_at (core_of core.old).recovery n None } }
 {
     core.recoveries.close(n);
 }
@@ -404,7 +428,8 @@ pub fn end_recovery(core: &mut CoreState, n: NodeId, d: NodeId)
     ensures { core_of core.new ≡ record (core_of core.old) {
       members = ended (core_of core.old).members d;
       recovery = with_at (core_of core.old).recovery n None;
-      locks = with_at (core_of core.old).locks d (let_go ((core_of core.old).locks d) n) } }
+      locks = with_at (core_of core.old).locks d (let_go ((core_of core.old).locks d) n);
+    } }
 {
     end_members(core, d);
     close(core, n);

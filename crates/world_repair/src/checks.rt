@@ -98,7 +98,8 @@ fn offers_to_leave(core: &CoreState, n: NodeId) -> bool
 
 fn has_offered(core: &CoreState, n: NodeId) -> bool
     requires { n < nodes_of core.now.identity.geometry }
-    ensures { result ≡ (is_offered ((core_of core.now).sender n) || has_published ((core_of core.now).sender n)) }
+    ensures { result ≡ (is_offered ((core_of core.now).sender n)
+        || has_published ((core_of core.now).sender n)) }
 {
     matches!(
         core.sender(n).sender_phase(),
@@ -117,7 +118,8 @@ pub fn check_stays(core: &CoreState, n: NodeId) -> Result<(), Refusal>
 /// Needs a sender that is idle.
 pub fn check_sends_nothing(core: &CoreState, n: NodeId) -> Result<(), Refusal>
     requires { n < nodes_of core.now.identity.geometry }
-    ensures { Judges result (sender_is (core_of core.now) n (is_sender_idle ((core_of core.now).sender n))) }
+    ensures { Judges result (sender_is (core_of core.now) n
+        (is_sender_idle ((core_of core.now).sender n))) }
 {
     let right = matches!(core.sender(n).sender_phase(), SenderPhase::Idle);
     core.check_sender(n, right)
@@ -134,7 +136,8 @@ fn check_addition(core: &CoreState, n: NodeId, right: bool) -> Result<(), Refusa
 /// Needs a leg that was added again.
 pub fn check_again(core: &CoreState, n: NodeId) -> Result<(), Refusal>
     requires { n < nodes_of core.now.identity.geometry }
-    ensures { Judges result (addition_is (core_of core.now) n (is_again ((core_of core.now).adding n).addition)) }
+    ensures { Judges result (addition_is (core_of core.now) n
+        (is_again ((core_of core.now).adding n).addition)) }
 {
     let right = matches!(core.additions.addition(n), Addition::Again(_));
     check_addition(core, n, right)
@@ -143,7 +146,8 @@ pub fn check_again(core: &CoreState, n: NodeId) -> Result<(), Refusal>
 /// Needs this leg to have been added again.
 pub fn check_again_of(core: &CoreState, n: NodeId, l: LegId) -> Result<(), Refusal>
     requires { n < nodes_of core.now.identity.geometry }
-    ensures { Judges result (addition_is (core_of core.now) n (is_again_of ((core_of core.now).adding n).addition l)) }
+    ensures { Judges result (addition_is (core_of core.now) n
+        (is_again_of ((core_of core.now).adding n).addition l)) }
 {
     let right = match core.additions.addition(n) {
         Addition::Again(m) => m == l,
@@ -191,7 +195,8 @@ pub fn check_sector_left(core: &CoreState, n: NodeId) -> Result<(), Refusal>
 /// Refuses a target that doesn't have the buffer's value.
 pub fn check_copied(core: &CoreState, n: NodeId) -> Result<(), Refusal>
     requires { n < nodes_of core.now.identity.geometry }
-    ensures { Judges result (refused_by Refusal.NotWritten (uncopied_target (core_of core.now) n (buffer_of (core_of core.now) n))) }
+    ensures { Judges result (refused_by Refusal.NotWritten
+        (uncopied_target (core_of core.now) n (buffer_of (core_of core.now) n))) }
 {
     match looks::uncopied(core, n) {
         None => Ok(()),
@@ -201,7 +206,8 @@ pub fn check_copied(core: &CoreState, n: NodeId) -> Result<(), Refusal>
 
 fn not_recovering(core: &CoreState, n: NodeId) -> Refusal
     requires { n < nodes_of core.now.identity.geometry }
-    ensures { result ≡ Refusal.NotPhase Part.Recovery (recovery_word ((core_of core.now).recovery n)) }
+    ensures { result ≡ Refusal.NotPhase Part.Recovery
+        (recovery_word ((core_of core.now).recovery n)) }
 {
     Refusal::NotPhase(Part::Recovery, core.recoveries.word(n))
 }
@@ -227,7 +233,8 @@ pub fn check_recovers(core: &CoreState, n: NodeId) -> Result<(), Refusal>
 /// Refuses a slot whose heir's own slot is pending.
 pub fn check_heir(core: &CoreState, d: NodeId) -> Result<(), Refusal>
     requires { d < nodes_of core.now.identity.geometry }
-    ensures { Judges result (pending_heir (core_of core.now).members ((core_of core.now).members.heir d)) }
+    ensures { Judges result (pending_heir (core_of core.now).members
+        ((core_of core.now).members.heir d)) }
 {
     match core.members.heir(d) {
         None => Ok(()),
@@ -238,7 +245,8 @@ pub fn check_heir(core: &CoreState, d: NodeId) -> Result<(), Refusal>
 /// Refuses where a page of the slot wasn't read from a leg that works.
 pub fn check_read(core: &CoreState, n: NodeId) -> Result<(), Refusal>
     requires { n < nodes_of core.now.identity.geometry }
-    ensures { Judges result (refused_by Refusal.NotRead (leg_unread (core_of core.now) n ((core_of core.now).recovery n))) }
+    ensures { Judges result (refused_by Refusal.NotRead
+        (leg_unread (core_of core.now) n ((core_of core.now).recovery n))) }
 {
     match looks::unread(core, n) {
         None => Ok(()),
@@ -249,7 +257,8 @@ pub fn check_read(core: &CoreState, n: NodeId) -> Result<(), Refusal>
 /// Refuses where a page of the slot wasn't written clean to a target.
 pub fn check_cleared(core: &CoreState, n: NodeId) -> Result<(), Refusal>
     requires { n < nodes_of core.now.identity.geometry }
-    ensures { Judges result (refused_by Refusal.NotWritten (leg_uncleared (core_of core.now) n ((core_of core.now).recovery n))) }
+    ensures { Judges result (refused_by Refusal.NotWritten
+        (leg_uncleared (core_of core.now) n ((core_of core.now).recovery n))) }
 {
     match looks::uncleared(core, n) {
         None => Ok(()),
@@ -260,7 +269,8 @@ pub fn check_cleared(core: &CoreState, n: NodeId) -> Result<(), Refusal>
 /// Refuses where a chunk that was found is in the set and has no mark on a target.
 pub fn check_marked(core: &CoreState, n: NodeId) -> Result<(), Refusal>
     requires { n < nodes_of core.now.identity.geometry }
-    ensures { Judges result (refused_by Refusal.BitMissing (leg_unmarked (core_of core.now) n ((core_of core.now).recovery n))) }
+    ensures { Judges result (refused_by Refusal.BitMissing
+        (leg_unmarked (core_of core.now) n ((core_of core.now).recovery n))) }
 {
     match looks::unmarked(core, n) {
         None => Ok(()),
@@ -271,7 +281,8 @@ pub fn check_marked(core: &CoreState, n: NodeId) -> Result<(), Refusal>
 /// Refuses where a chunk that was found is still to be copied.
 pub fn check_found_copied(core: &CoreState, n: NodeId) -> Result<(), Refusal>
     requires { n < nodes_of core.now.identity.geometry }
-    ensures { Judges result (refused_by Refusal.Needed (chunk_needed (core_of core.now) n ((core_of core.now).recovery n))) }
+    ensures { Judges result (refused_by Refusal.Needed
+        (chunk_needed (core_of core.now) n ((core_of core.now).recovery n))) }
 {
     match looks::needed(core, n) {
         None => Ok(()),

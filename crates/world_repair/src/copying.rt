@@ -19,7 +19,8 @@ use world_state::{CoreState, receive, send};
 fn next_place(core: &CoreState, n: NodeId) -> (LegId, u32)
     requires accepted { refusal (core_of core.now) (Event.CopyIn n) ≡ None }
     requires ready { Ready (core_of core.now) }
-    ensures { transfer_of (core_of core.now) (Event.CopyIn n) ≡ Some (reads_from n result.0 result.1) }
+    ensures { transfer_of (core_of core.now) (Event.CopyIn n)
+        ≡ Some (reads_from n result.0 result.1) }
 {
     let s = match looks::next_sector(core, n) {
         Some(s) => s,
@@ -62,7 +63,8 @@ pub fn copy_in<L: LegDev>(core: &mut CoreState, legs: &mut Vec<L>, n: NodeId) ->
 fn buffer_place(core: &CoreState, n: NodeId, l: LegId) -> (u32, Sector)
     requires accepted { refusal (core_of core.now) (Event.CopyOut n l) ≡ None }
     requires ready { Ready (core_of core.now) }
-    ensures { transfer_of (core_of core.now) (Event.CopyOut n l) ≡ Some (writes_to n l result.0 result.1) }
+    ensures { transfer_of (core_of core.now) (Event.CopyOut n l)
+        ≡ Some (writes_to n l result.0 result.1) }
 {
     match looks::buffer(core, n) {
         Some((s, v)) => (looks::place_of(core, s), v),

@@ -12,9 +12,11 @@ use world_state::CoreState;
 pub fn fail(core: &mut CoreState, n: NodeId, l: LegId) -> Outcome
     requires node { n < nodes_of core.old.identity.geometry }
     requires leg { l < 8 }
-    ensures outcome { result ≡ (if is_last ((core_of core.old).view n) l then Outcome.Io l else Outcome.Lost l) }
+    ensures outcome { result
+        ≡ (if is_last ((core_of core.old).view n) l then Outcome.Io l else Outcome.Lost l) }
     ensures core { core_of core.new
-        ≡ (if is_last ((core_of core.old).view n) l then core_of core.old else leg_lost (core_of core.old) n l) }
+        ≡ (if is_last ((core_of core.old).view n) l then core_of core.old
+        else leg_lost (core_of core.old) n l) }
 {
     if core.is_last(n, l) {
         return Outcome::Io(l);

@@ -18,7 +18,8 @@ use world_state::{CoreState, receive};
 fn due_place(core: &CoreState, n: NodeId) -> (LegId, u32)
     requires accepted { refusal (core_of core.now) (Event.Gather n) ≡ None }
     requires ready { Ready (core_of core.now) }
-    ensures { transfer_of (core_of core.now) (Event.Gather n) ≡ Some (reads_from n result.0 result.1) }
+    ensures { transfer_of (core_of core.now) (Event.Gather n)
+        ≡ Some (reads_from n result.0 result.1) }
 {
     let (d, p) = match looks::due(core, n) {
         Some(due) => due,

@@ -60,14 +60,16 @@ fn recovers(core: &CoreState, n: NodeId) -> bool
 
 fn unread_of(core: &CoreState, n: NodeId, legs: u8) -> Option<LegId>
     requires { n < 16 }
-    ensures { result ≡ first_unread (sizes (core_of core.now)) ((core_of core.now).recovery n) (has_bit legs) }
+    ensures { result ≡ first_unread (sizes (core_of core.now)) ((core_of core.now).recovery n)
+        (has_bit legs) }
 {
     core.recoveries.unread_leg(n, legs)
 }
 
 fn uncleared_of(core: &CoreState, n: NodeId, legs: u8) -> Option<LegId>
     requires { n < 16 }
-    ensures { result ≡ first_uncleared (sizes (core_of core.now)) ((core_of core.now).recovery n) (has_bit legs) }
+    ensures { result ≡ first_uncleared (sizes (core_of core.now)) ((core_of core.now).recovery n)
+        (has_bit legs) }
 {
     core.recoveries.uncleared_leg(n, legs)
 }
@@ -75,7 +77,8 @@ fn uncleared_of(core: &CoreState, n: NodeId, legs: u8) -> Option<LegId>
 fn unmarked_of(core: &CoreState, n: NodeId, legs: u8) -> Option<LegId>
     requires { n < 16 }
     ensures { (r : Recovering) → (core_of core.now).recovery n ≡ Some r
-        → result ≡ unmarked_target_of (sizes (core_of core.now)) ((core_of core.now).bitmap n) (has_bit legs) r.found }
+        → result ≡ unmarked_target_of (sizes (core_of core.now)) ((core_of core.now).bitmap n)
+        (has_bit legs) r.found }
 {
     core.bitmaps
         .unmarked_target_of(n, legs, core.recoveries.found(n))
@@ -84,7 +87,8 @@ fn unmarked_of(core: &CoreState, n: NodeId, legs: u8) -> Option<LegId>
 fn needed_of(core: &CoreState, n: NodeId) -> Option<ChunkNo>
     requires { n < 16 }
     ensures { (r : Recovering) → (core_of core.now).recovery n ≡ Some r
-        → result ≡ first_found_needed (sizes (core_of core.now)) r ((core_of core.now).bitmap n).need }
+        → result ≡ first_found_needed (sizes (core_of core.now)) r
+        ((core_of core.now).bitmap n).need }
 {
     core.bitmaps.first_needed_of(n, core.recoveries.found(n))
 }
@@ -108,7 +112,8 @@ pub fn next_sector(core: &CoreState, n: NodeId) -> Option<SectorNo>
 /// The sector in the buffer, and its value.
 pub fn buffer(core: &CoreState, n: NodeId) -> Option<(SectorNo, Sector)>
     requires { n < 16 }
-    ensures value { result ≡ option_map (λ b. (b.sector, b.value)) (buffer_of (core_of core.now) n) }
+    ensures value { result ≡ option_map (λ b. (b.sector, b.value))
+        (buffer_of (core_of core.now) n) }
     ensures range { IfSome result (λ b. b.0 < (sizes (core_of core.now)).room) }
 {
     core.copies.buffer(n)

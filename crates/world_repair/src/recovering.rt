@@ -78,7 +78,8 @@ pub fn slot_in<L: LegDev>(
 fn slot_out_place(core: &CoreState, n: NodeId, p: PageNo, l: LegId) -> (u32, Sector)
     requires accepted { refusal (core_of core.now) (Event.SlotOut n p l) ≡ None }
     requires ready { Ready (core_of core.now) }
-    ensures { transfer_of (core_of core.now) (Event.SlotOut n p l) ≡ Some (writes_to n l result.0 result.1) }
+    ensures { transfer_of (core_of core.now) (Event.SlotOut n p l)
+        ≡ Some (writes_to n l result.0 result.1) }
 {
     let page = changes::clean_page(core, p);
     match looks::slot(core, n) {
@@ -102,7 +103,8 @@ fn page_cleared(core: &mut CoreState, n: NodeId, p: PageNo, l: LegId) -> Outcome
 fn page_tried(core: &mut CoreState, n: NodeId, p: PageNo, l: LegId) -> Outcome
     requires accepted { refusal (core_of core.old) (Event.SlotOut n p l) ≡ None }
     requires leg { l < 8 }
-    ensures outcome { result ≡ (if is_last ((core_of core.old).view n) l then Outcome.Io l else Outcome.Lost l) }
+    ensures outcome { result
+        ≡ (if is_last ((core_of core.old).view n) l then Outcome.Io l else Outcome.Lost l) }
     ensures core { core_of core.new ≡ (if is_last ((core_of core.old).view n) l
         then tried (core_of core.old) (Event.SlotOut n p l)
         else leg_lost (tried (core_of core.old) (Event.SlotOut n p l)) n l) }

@@ -1,5 +1,5 @@
 use Rattle.node_copies.specs.Copies.{IsNew, no_place}
-use Rattle.node_copies.proofs.TableLaws.{all_none, all_more}
+use Rattle.node_copies.proofs.TableLaws.{all_more}
 use Rattle.node_copies.proofs.copies.new_places.Goals as goal
 
 pub loop-preserved : goal.loop-preserved

@@ -1,4 +1,4 @@
-use Rattle.std.proofs.Common.{ap, ◌∙◌, nat_lt, ℕ, Bool}
+use Rattle.std.proofs.Common.{ap, ◌∙◌, nat_lt}
 use Rattle.mdc_types.specs.Geometry.{chunks_of}
 use Rattle.cluster_model.specs.State.{sizes}
 use Rattle.cluster_model.specs.Passes.{begin_pass}
