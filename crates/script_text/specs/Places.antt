@@ -1,5 +1,6 @@
 -- Lines by where they begin in the bytes of a script.
-use Rattle.std.specs.Prelude.{◌≡◌, ℕ, ◌-◌, List, [], ◌∷◌, map, drop, Option, Some, None, Result, Ok, Err}
+use Rattle.std.specs.Prelude.{◌≡◌, ℕ, ◌-◌, true, List, [], ◌∷◌, drop, Option, None, is_some, Result, Ok, Err}
+use Rattle.std.specs.List.{AllByRecursion, filter_map}
 use Rattle.std.specs.Result.{result_ok}
 use Rattle.script_text.specs.declared.faults.FaultKind.{FaultKind}
 use Rattle.script_text.specs.Lines.{lines_of, script_limit}
@@ -20,16 +21,10 @@ first_line of room (line ∷ lines) = line_in of (said_by room line)
 abbrev pub line_at : {L : Type 0} → (List ℕ → List (List ℕ) → Result L FaultKind) → List ℕ → ℕ → Option L
 line_at of bytes at = first_line of (script_limit - at) (lines_of (drop at bytes))
 
--- those of some that are there
-abbrev pub all_some : {L : Type 0} → List (Option L) → List L
-all_some [] = []
-all_some (None ∷ xs) = all_some xs
-all_some (Some x ∷ xs) = x ∷ all_some xs
-
 -- the lines at these places
 abbrev pub lines_at : {L : Type 0} → (List ℕ → List (List ℕ) → Result L FaultKind) → List ℕ → List ℕ → List L
-lines_at of bytes places = all_some (map (line_at of bytes) places)
+lines_at of bytes places = filter_map (line_at of bytes) places
 
 -- a line begins at each of these places
 abbrev pub AreLines : {L : Type 0} → (List ℕ → List (List ℕ) → Result L FaultKind) → List ℕ → List ℕ → Type 0
-AreLines of bytes places = map (line_at of bytes) places ≡ map Some (lines_at of bytes places)
+AreLines of bytes places = AllByRecursion (λ at. is_some (line_at of bytes at) ≡ true) places
