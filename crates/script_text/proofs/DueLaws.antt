@@ -1,7 +1,8 @@
 -- Text of which a front was written and the rest waits.
-use Rattle.std.proofs.Common.{◌≡◌, ℕ, ◌+◌, ◌<◌, List, [], ◌++◌, length, take, Option, refl, ap, sym, ◌∙◌, arith}
+use Rattle.std.proofs.Common.{◌≡◌, ℕ, ◌+◌, ◌<◌, List, [], ◌++◌, length, take, Option, Result, Ok, Err, refl, ap, sym, ◌∙◌, arith}
 use Rattle.std.proofs.lemmas.List.{append_assoc, append-nil, length-append}
 use Rattle.std.proofs.Math.Seq.{take-append-add}
+use Rattle.std.specs.Result.{OnOk, OnErr}
 use Rattle.script_text.specs.Outside.{with_back, WroteFront, IsDue}
 use Rattle.script_text.proofs.OutsideLaws.{with_back-with_back, with_back-nil}
 
@@ -34,3 +35,19 @@ due_cut_all before now later text waiting d w =
 pub due_all : (before now later : Option (List ℕ)) (text waiting : List ℕ) → IsDue before text waiting now → later ≡ with_back now waiting → later ≡ with_back before text
 due_all before now later text waiting d is =
     is ∙ (ap (λ o. with_back o waiting) d.written ∙ (with_back-with_back before d.front waiting ∙ ap (with_back before) (sym d.text_is)))
+
+-- what waited was written, and then a text at once
+module _ {A E : Type 0} (before now later : Option (List ℕ)) (waiting text : List ℕ) where
+  pub flushed_ok : (rest : List ℕ) (r : Result A E) → now ≡ with_back before waiting → rest ≡ [] → OnOk r (later ≡ with_back now text) → OnOk r (IsDue before (waiting ++ text) rest later)
+  flushed_ok rest (Ok x) is none all = record {
+    front = waiting ++ text;
+    text_is = sym (ap (λ r. (waiting ++ text) ++ r) none ∙ append-nil (waiting ++ text));
+    written = all ∙ (ap (λ o. with_back o text) is ∙ with_back-with_back before waiting text);
+  }
+  flushed_ok rest (Err e) is none all = tt
+
+  pub flushed_err : (r : Result A E) → now ≡ with_back before waiting → OnErr r (WroteFront now text later) → OnErr r (WroteFront before (waiting ++ text) later)
+  flushed_err (Ok x) is cut = tt
+  flushed_err (Err e) is cut =
+      (length waiting + cut.0, omega (arith, cut.1, length-append waiting text),
+      cut.2 ∙ (ap (λ o. with_back o (take cut.0 text)) is ∙ (with_back-with_back before waiting (take cut.0 text) ∙ ap (with_back before) (sym (take-append-add waiting text cut.0)))))

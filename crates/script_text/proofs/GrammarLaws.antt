@@ -1,5 +1,5 @@
 -- What each script in the grammar has.
-use Rattle.std.proofs.Common.{◌≡◌, ℕ, ◌+◌, ◌-◌, ◌<◌, ◌≤◌, ◌==◌, nat_le, nat_lt, Bool, true, false, ◌&&◌, ◌⊎◌, inl, inr, cond, List, [], ◌∷◌, ◌++◌, length, Option, Some, None, Result, Ok, Err, refl, ap, subst, sym, ◌∙◌, arith}
+use Rattle.std.proofs.Common.{◌≡◌, ℕ, ◌+◌, ◌-◌, ◌<◌, ◌≤◌, ◌==◌, nat_le, nat_lt, Bool, true, false, ◌&&◌, ◌||◌, ◌⊎◌, inl, inr, cond, List, [], ◌∷◌, ◌++◌, length, Option, Some, None, Result, Ok, Err, refl, ap, subst, sym, ◌∙◌, arith}
 use Rattle.std.proofs.lemmas.Bool.{false≢true}
 use Rattle.std.proofs.lemmas.Bool.Decides.{nat_tests}
 use Rattle.std.proofs.lemmas.Nat.Bits.{bit_at-zero}
@@ -7,6 +7,9 @@ use Rattle.std.specs.Prelude.{is_ok, is_some, ok_or, codes}
 use Rattle.std.specs.List.{AllByRecursion}
 use Rattle.std.specs.Str.{bytes_eq}
 use Rattle.mdc_types.specs.Bits.{has_bit, with_bit}
+use Rattle.mdc_types.specs.Geometry.{Sizes}
+use Rattle.mdc_types.specs.declared.geometry.GeomError.{GeomError}
+use Rattle.mdc_types.specs.declared.geometry.GeomError.TheVariants.{Legs}
 use Rattle.mdc_types.proofs.BitsLaws.{has_bit-with_bit}
 use Rattle.script_text.specs.declared.script.Start.{Start}
 use Rattle.script_text.specs.declared.script.FaultLine.{FaultLine}
@@ -36,7 +39,7 @@ ok_or_some None e x is = cc
 ok_or_some (Some y) e x is = cc
 
 -- what is found of a line without a fault
-at_line_ok : {A : Type 0} (n : ℕ) (r : Result A FaultKind) (x : A) → at_line n r ≡ Ok x → r ≡ Ok x
+pub at_line_ok : {A : Type 0} (n : ℕ) (r : Result A FaultKind) (x : A) → at_line n r ≡ Ok x → r ≡ Ok x
 at_line_ok n (Err kind) x is = cc
 at_line_ok n (Ok y) x is = cc
 
@@ -113,7 +116,7 @@ room_is s args line i is =
     let room = bind_ok (one_number args) _ line is in
     let found = ok_or_some (guarded (is_ok (start_sizes (with_room s.start room.0))) (Room room.0)) kinds.Range line room.2 in
     let made = guarded_some (is_ok (start_sizes (with_room s.start room.0))) (Room room.0) line found in
-    subst (λ l. IsSetup (with_line s l)) made.1
+    subst (λ l. IsSetup (with_line s l)) {x = Room room.0} made.1
     (record { array = made.0; some_node = i.some_node; nodes = i.nodes; leg_0 = i.leg_0; spares = i.spares; faults = i.faults })
 
 spare_bits : (set k j : ℕ) → has_bit (with_bit set k) j ≡ true → (j ≡ k) ⊎ (has_bit set j ≡ true)
@@ -128,7 +131,7 @@ spare_is s args line i is =
     let tests = both (nat_lt 0 l) (nat_lt l s.start.legs) made.0 in
     let some : 0 < l = grind (arith, nat_tests, tests.0) in
     let below : l < s.start.legs = grind (arith, nat_tests, tests.1) in
-    subst (λ l. IsSetup (with_line s l)) made.1
+    subst (λ l. IsSetup (with_line s l)) {x = Spare l} made.1
     (record {
       array = i.array;
       some_node = i.some_node;
@@ -151,7 +154,7 @@ fault_is s args line i is =
     let fault : FaultLine = record { leg = leg.0; transfer = transfer.0; new = new.0 } in
     let found = ok_or_some (guarded (nat_lt leg.0 s.start.legs) (Fault fault)) kinds.Range line new.2 in
     let made = guarded_some (nat_lt leg.0 s.start.legs) (Fault fault) line found in
-    subst (λ l. IsSetup (with_line s l)) made.1
+    subst (λ l. IsSetup (with_line s l)) {x = Fault fault} made.1
     (record {
       array = i.array;
       some_node = i.some_node;
@@ -161,10 +164,56 @@ fault_is s args line i is =
       faults = faults_push s.start s.faults fault i.faults (grind (arith, nat_tests, made.0));
     })
 
+not_spare_room : {room l : ℕ} → Room room ≡ Spare l → ⊥
+not_spare_room is = cc
+
+not_spare_fault : {f : FaultLine} {l : ℕ} → Fault f ≡ Spare l → ⊥
+not_spare_fault is = cc
+
 pub line_keeps : (s : Setup) (word : List ℕ) (args : List (List ℕ)) (line : SetupLine) → IsSetup s → setup_line s.start word args ≡ Ok line → IsSetup (with_line s line)
 line_keeps s word args line i is =
     chosen (bytes_eq word (codes "room")) _ _ (Ok line) _ is (room_is s args line i)
     (λ is. chosen (bytes_eq word (codes "spare")) _ _ (Ok line) _ is (spare_is s args line i) (fault_is s args line i))
+
+-- a spare is a leg
+pub spare_leg : (s : Start) (word : List ℕ) (args : List (List ℕ)) (l : ℕ) → setup_line s word args ≡ Ok (Spare l) → l < s.legs
+spare_leg s word args l is =
+    chosen (bytes_eq word (codes "room")) _ _ (Ok (Spare l)) _ is
+    (λ is.
+    let room = bind_ok (one_number args) _ (Spare l) is in
+    let found = ok_or_some (guarded (is_ok (start_sizes (with_room s room.0))) (Room room.0)) kinds.Range (Spare l) room.2 in
+    let made = guarded_some (is_ok (start_sizes (with_room s room.0))) (Room room.0) (Spare l) found in
+    absurd (not_spare_room made.1))
+    (λ is. chosen (bytes_eq word (codes "spare")) _ _ (Ok (Spare l)) _ is
+    (λ is.
+    let leg = bind_ok (one_number args) _ (Spare l) is in
+    let found = ok_or_some (guarded (nat_lt 0 leg.0 && nat_lt leg.0 s.legs) (Spare leg.0)) kinds.Range (Spare l) leg.2 in
+    let made = guarded_some (nat_lt 0 leg.0 && nat_lt leg.0 s.legs) (Spare leg.0) (Spare l) found in
+    let tests = both (nat_lt 0 leg.0) (nat_lt leg.0 s.legs) made.0 in
+    let same : leg.0 ≡ l = cc in
+    grind (arith, nat_tests, tests.1))
+    (λ is.
+    let fits = bind_ok (fitting (fits_left (third args))) _ (Spare l) is in
+    let words = bind_ok (ok_or (three args) kinds.Count) _ (Spare l) fits.2 in
+    let leg = bind_ok (number_word words.0.0) _ (Spare l) words.2 in
+    let transfer = bind_ok (number_word words.0.1) _ (Spare l) leg.2 in
+    let new = bind_ok (ok_or (left_of words.0.2) kinds.Word) _ (Spare l) transfer.2 in
+    let fault : FaultLine = record { leg = leg.0; transfer = transfer.0; new = new.0 } in
+    let found = ok_or_some (guarded (nat_lt leg.0 s.legs) (Fault fault)) kinds.Range (Spare l) new.2 in
+    let made = guarded_some (nat_lt leg.0 s.legs) (Fault fault) (Spare l) found in
+    absurd (not_spare_fault made.1)))
+
+-- an array has at most eight legs
+few_legs : (low high : Bool) (rest : Result Sizes GeomError) → is_ok (cond (low || high) (Err Legs) rest) ≡ true → high ≡ false
+few_legs true high rest is = absurd (false≢true is)
+few_legs false true rest is = absurd (false≢true is)
+few_legs false false rest is = refl
+
+pub array_legs : (s : Start) → is_ok (start_sizes s) ≡ true → s.legs ≤ 8
+array_legs s is = grind (arith, nat_tests, few_legs (nat_lt s.legs 2) (nat_lt 8 s.legs) _ is)
+
+pub start_legs : (word : List ℕ) (args : List (List ℕ)) (s : Start) → start_of word args ≡ Ok s → s.legs ≤ 8
+start_legs word args s is = array_legs s (start_is word args s is).array
 
 -- The whole.
 

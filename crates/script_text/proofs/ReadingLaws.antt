@@ -1,7 +1,7 @@
 -- What a line says, and the lines after it.
 use Rattle.std.proofs.Common.{◌≡◌, ℕ, ◌+◌, ◌-◌, ◌<◌, ◌≤◌, nat_lt, Bool, true, false, List, [], ◌∷◌, ◌++◌, length, drop, Option, Some, None, Result, Ok, Err, refl, ap, sym, subst, ◌∙◌, arith}
 use Rattle.std.proofs.lemmas.Bool.Decides.{nat_tests}
-use Rattle.std.proofs.lemmas.List.{append_assoc, drop_all}
+use Rattle.std.proofs.lemmas.List.{append_assoc, drop_all, drop-drop, length-drop}
 use Rattle.std.proofs.lemmas.Str.{IsUtf8-from_is_utf8, is_utf8-from_IsUtf8}
 use Rattle.std.specs.Borrow.{Bor}
 use Rattle.std.specs.Prelude.{is_some, codes}
@@ -9,6 +9,8 @@ use Rattle.std.specs.Result.{MatchResult, result_ok}
 use Rattle.std.specs.Option.{option_copied}
 use Rattle.std.specs.Str.{IsUtf8, is_utf8, bytes_eq}
 use Rattle.script_text.specs.declared.script.Start.{Start}
+use Rattle.script_text.specs.declared.script.FaultLine.{FaultLine}
+use Rattle.script_text.specs.declared.header.SetupLine.{SetupLine}
 use Rattle.script_text.specs.declared.faults.FaultKind.{FaultKind}
 use Rattle.script_text.specs.declared.faults.FaultKind.TheVariants as kinds
 use Rattle.script_text.specs.declared.faults.ScriptFault.{ScriptFault}
@@ -172,3 +174,65 @@ after_lines-onto_lines front (Ok line) first (Ok lines) is = let same : line ≡
 pub onto_lines-wrong : {L : Type 0} (line : Result L ScriptFault) (fault : ScriptFault) (later : Result (List L) ScriptFault) → line ≡ Err fault → onto_lines line later ≡ Err fault
 onto_lines-wrong (Err f) fault later is = ap Err (err_same is)
 onto_lines-wrong (Ok line) fault later is = cc
+
+-- The line of the given text at the place, and what was read of it.
+module _ (bytes : List ℕ) (at : ℕ) (text : List ℕ) (size : ℕ) (b : BeginsWithLine (drop at bytes) text size) where
+  pub line_read : (words : List (List ℕ)) → size ≤ script_limit - at → said_by (script_limit - at) b.line ≡ Ok words → HasLine bytes at words (at + size)
+  line_read words fits said = record {
+    line = b.line;
+    first = b.lines ∙ ap (λ rest. b.line ∷ lines_of rest) (drop-drop size at bytes);
+    said = said;
+    next_is = omega (arith, b.size_is);
+    later = omega (arith, b.some);
+    within = omega (arith, b.within, b.some, length-drop at bytes);
+    room = omega (arith, b.some);
+  }
+
+module _ (bytes : List ℕ) (at n : ℕ) (word : List ℕ) (args : List (List ℕ)) (next : ℕ) (h : HasLine bytes at (word ∷ args) next) where
+  pub start_found : (whole : Result ScriptValue ScriptFault) (s : Start) → whole ≡ script_in n (script_limit - at) (lines_of (drop at bytes)) → at_line n (start_of word args) ≡ Ok s
+      → whole ≡ setup_at bytes (new_setup s) next (n + 1)
+  start_found whole s is there = is ∙ (script_first bytes at n (word ∷ args) next h ∙ ap (λ r. r >>= λ start. setup_at bytes (new_setup start) next (n + 1)) there)
+
+  module _ (whole : Result ScriptValue ScriptFault) (first : Bool) (s : Setup) (is : whole ≡ setup_in first s n (script_limit - at) (lines_of (drop at bytes))) where
+    abbrev later : Bool → Setup → Result ScriptValue ScriptFault
+    later f t = setup_in f t (n + 1) (script_limit - next) (lines_of (drop next bytes))
+
+    -- a line of the setup
+    setup_is : is_setup first word ≡ true → whole ≡ (at_line n (setup_line s.start word args) >>= λ line. later false (with_line s line))
+    setup_is test = is ∙ (setup_first bytes at n first s (word ∷ args) next h ∙ rw test refl)
+
+    pub setup_more : (line : SetupLine) → is_setup first word ≡ true → at_line n (setup_line s.start word args) ≡ Ok line
+        → whole ≡ setup_in false (with_line s line) (n + 1) (script_limit - next) (lines_of (drop next bytes))
+    setup_more line test there = setup_is test ∙ ap (λ r. r >>= λ line. later false (with_line s line)) there
+
+    pub setup_wrong : (fault : ScriptFault) → is_setup first word ≡ true → at_line n (setup_line s.start word args) ≡ Err fault → whole ≡ Err fault
+    setup_wrong fault test there = setup_is test ∙ ap (λ r. r >>= λ line. later false (with_line s line)) there
+
+    -- another line: the body begins
+    pub setup_ends : is_setup first word ≡ false → whole ≡ with_lines s (body_at line_of bytes at n)
+    setup_ends test = is ∙ (setup_first bytes at n first s (word ∷ args) next h ∙ rw test refl)
+
+abbrev pub setup_with : Start → List FaultLine → Setup
+setup_with start faults = record { start = start; faults = faults }
+
+pub setup_same : (a b : Start) (xs ys : List FaultLine) → a ≡ b → xs ≡ ys → setup_with a xs ≡ setup_with b ys
+setup_same a b xs ys e f = ap (λ s. setup_with s xs) e ∙ ap (setup_with b) f
+
+-- What a loop over the lines of the setup has read before a line, and then after it.
+module _ (bytes : List ℕ) (at n next : ℕ) (whole : Result ScriptValue ScriptFault) (first : Bool) (s : Setup) (said : Option (Bor (List ℕ) × Option (Bor (List ℕ))))
+    (is : whole ≡ setup_in first s n (script_limit - at) (lines_of (drop at bytes))) (h : HasLine bytes at (words_read said) next) where
+  pub setup_goes_on : (word : Bor (List ℕ)) (args : Option (Bor (List ℕ))) (line : SetupLine) (first₂ : Bool) (s₂ : Setup) → said ≡ Some (word, args) → is_setup first word.now ≡ true
+      → at_line n (setup_line s.start word.now (words_after (option_copied args))) ≡ Ok line → first₂ ≡ false → with_line s line ≡ s₂
+      → whole ≡ setup_in first₂ s₂ (n + 1) (script_limit - next) (lines_of (drop next bytes))
+  setup_goes_on word args line first₂ s₂ some test there later after =
+      let found = subst (λ x. HasLine bytes at (words_read x) next) some h in
+      setup_more bytes at n word.now (words_after (option_copied args)) next found whole first s is line test there
+      ∙ (ap (λ t. setup_in false t (n + 1) (script_limit - next) (lines_of (drop next bytes))) after
+      ∙ ap (λ f. setup_in f s₂ (n + 1) (script_limit - next) (lines_of (drop next bytes))) (sym later))
+
+  pub setup_skips : (first₂ : Bool) (s₂ : Setup) → said ≡ None → first₂ ≡ first → s ≡ s₂ → whole ≡ setup_in first₂ s₂ (n + 1) (script_limit - next) (lines_of (drop next bytes))
+  setup_skips first₂ s₂ none same after =
+      let found = subst (λ x. HasLine bytes at (words_read x) next) none h in
+      is ∙ (setup_first bytes at n first s [] next found
+      ∙ (ap (λ t. setup_in first t (n + 1) (script_limit - next) (lines_of (drop next bytes))) after
+      ∙ ap (λ f. setup_in f s₂ (n + 1) (script_limit - next) (lines_of (drop next bytes))) (sym same)))

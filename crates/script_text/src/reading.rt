@@ -76,6 +76,7 @@ pub(crate) fn line_at<L: ScriptLine>(bytes: &[u8], at: u32) -> Option<L>
 // The array of the header, where the line after it begins, and that line's number.
 fn read_start(bytes: &[u8]) -> Result<(Start, usize, u32), ScriptFault>
     ensures found { ReadsStart bytes.now result }
+    ensures legs { IfOk result (λ x. x.0.legs ≤ 8) }
     ensures few { IfOk result (λ x. (x.2 ≤ x.1 + 1) × (x.1 ≤ script_limit)) }
 {
     let mut at = 0;
@@ -106,6 +107,7 @@ fn read_setup(
 ) -> Result<(Start, Vec<FaultLine>, usize, u32), ScriptEnd>
     requires few { line ≤ at + 1 }
     requires room { at ≤ script_limit }
+    requires legs { start.legs ≤ 8 }
     ensures found { ReadsSetup bytes.now (setup_at bytes.now (new_setup start) at line) result }
     ensures few { IfOk result (λ x. (x.3 ≤ x.2 + 1) × (x.2 ≤ script_limit)) }
 {

@@ -10,6 +10,7 @@ invariant-loop-at l = record {
       ≡ setup_in l.first (record { start = l.start; faults = l.faults.items }) l.line (script_limit - l.at) (lines_of (drop l.at l.bytes));
   few : l.line ≤ l.at + 1;
   room : l.at ≤ script_limit;
+  legs : l.start.legs ≤ 8;
 }
 
 abbrev pub decreases-loop-at : goal.decreases-loop-at
