@@ -1,5 +1,5 @@
 // Sets of numbers, and roles of legs.
-ghost use Rattle.std.specs.Prelude.{◌≡◌, ◌<◌, ◌++◌, map, IfOk, OnOk, string_bytes};
+ghost use Rattle.std.specs.Prelude.{◌≡◌, ◌<◌, ◌++◌, map, take, IfOk, OnOk, string_bytes};
 ghost use Rattle.std.specs.List.{flat_map};
 ghost use Rattle.mdc_types.specs.Bits.{has_bit};
 ghost use Rattle.node_bitmaps.specs.Map.{bitmap_of, chunks_in};
@@ -137,10 +137,16 @@ fn push_letters(text: &mut String, roles: &[Role]) -> Result<(), AllocError>
     Ok(())
 }
 
+fn push_first(text: &mut String, roles: &[Role], count: usize) -> Result<(), AllocError>
+    ensures { OnOk result (string_bytes text.new ≡ string_bytes text.old ++ map role_letter (take count roles.now)) }
+{
+    let shown = count.min(roles.len());
+    push_letters(text, &roles[..shown])
+}
+
 /// Appends a letter for the role of each of the first legs, of which there are eight.
 pub fn push_roles(text: &mut String, roles: &Roles, legs: u8) -> Result<(), AllocError>
     ensures { OnOk result (string_bytes text.new ≡ string_bytes text.old ++ roles_text roles.now legs) }
 {
-    let shown = usize::from(legs).min(roles.legs.len());
-    push_letters(text, &roles.legs[..shown])
+    push_first(text, &roles.legs, usize::from(legs))
 }
