@@ -1,5 +1,5 @@
 -- Text of which a front was written and the rest waits.
-use Rattle.std.proofs.Common.{◌≡◌, ℕ, ◌+◌, ◌<◌, List, [], ◌++◌, length, take, Option, Result, Ok, Err, refl, ap, sym, ◌∙◌, arith}
+use Rattle.std.proofs.Common.{◌≡◌, ℕ, ◌+◌, List, [], ◌++◌, length, take, Option, Result, Ok, Err, refl, ap, sym, ◌∙◌, arith}
 use Rattle.std.proofs.lemmas.List.{append_assoc, append-nil, length-append}
 use Rattle.std.proofs.Math.Seq.{take-append-add}
 use Rattle.std.specs.Result.{OnOk, OnErr}
@@ -20,10 +20,12 @@ due_more before now later text waiting more rest d e = record {
 -- a write failed, and nothing of it waits
 pub due_cut : (before now later : Option (List ℕ)) (text waiting more : List ℕ) → IsDue before text waiting now → WroteFront now (waiting ++ more) later → WroteFront before (text ++ more) later
 due_cut before now later text waiting more d w =
-    let all : text ++ more ≡ d.front ++ (waiting ++ more) = ap (λ t. t ++ more) d.text_is ∙ append_assoc d.front waiting more in
-    (length d.front + w.0, omega (arith, w.1, ap length all, length-append d.front (waiting ++ more)),
-    w.2 ∙ (ap (λ o. with_back o (take w.0 (waiting ++ more))) d.written ∙ (with_back-with_back before d.front (take w.0 (waiting ++ more))
-    ∙ ap (with_back before) (sym (ap (take (length d.front + w.0)) all ∙ take-append-add d.front (waiting ++ more) w.0)))))
+    let all : text ++ more ≡ d.front ++ (waiting ++ more) = ap (λ t. t ++ more) d.text_is ∙ append_assoc d.front waiting more in (
+      length d.front + w.0,
+      omega (arith, w.1, ap length all, length-append d.front (waiting ++ more)),
+      w.2 ∙ (ap (λ o. with_back o (take w.0 (waiting ++ more))) d.written ∙ (with_back-with_back before d.front (take w.0 (waiting ++ more))
+          ∙ ap (with_back before) (sym (ap (take (length d.front + w.0)) all ∙ take-append-add d.front (waiting ++ more) w.0)))),
+    )
 
 pub due_cut_all : (before now later : Option (List ℕ)) (text waiting : List ℕ) → IsDue before text waiting now → WroteFront now waiting later → WroteFront before text later
 due_cut_all before now later text waiting d w =
@@ -48,6 +50,8 @@ module _ {A E : Type 0} (before now later : Option (List ℕ)) (waiting text : L
 
   pub flushed_err : (r : Result A E) → now ≡ with_back before waiting → OnErr r (WroteFront now text later) → OnErr r (WroteFront before (waiting ++ text) later)
   flushed_err (Ok x) is cut = tt
-  flushed_err (Err e) is cut =
-      (length waiting + cut.0, omega (arith, cut.1, length-append waiting text),
-      cut.2 ∙ (ap (λ o. with_back o (take cut.0 text)) is ∙ (with_back-with_back before waiting (take cut.0 text) ∙ ap (with_back before) (sym (take-append-add waiting text cut.0)))))
+  flushed_err (Err e) is cut = (
+    length waiting + cut.0,
+    omega (arith, cut.1, length-append waiting text),
+    cut.2 ∙ (ap (λ o. with_back o (take cut.0 text)) is ∙ (with_back-with_back before waiting (take cut.0 text) ∙ ap (with_back before) (sym (take-append-add waiting text cut.0)))),
+  )

@@ -3,7 +3,7 @@ use Rattle.std.proofs.Common.{◌≡◌, ℕ, ◌+◌, ◌-◌, ◌<◌, ◌≤�
 use Rattle.std.proofs.lemmas.Bool.{false≢true}
 use Rattle.std.proofs.lemmas.Bool.Decides.{nat_tests}
 use Rattle.std.proofs.lemmas.Nat.Bits.{bit_at-zero}
-use Rattle.std.specs.Prelude.{is_ok, is_some, ok_or, codes}
+use Rattle.std.specs.Prelude.{is_ok, ok_or, codes}
 use Rattle.std.specs.List.{AllByRecursion}
 use Rattle.std.specs.Str.{bytes_eq}
 use Rattle.mdc_types.specs.Bits.{has_bit, with_bit}
@@ -23,7 +23,7 @@ use Rattle.script_text.specs.Steps.{guarded}
 use Rattle.script_text.specs.Judging.{◌>>=◌, at_line}
 use Rattle.script_text.specs.Lines.{lines_of, script_limit, three, four, third}
 use Rattle.script_text.specs.Arguments.{number_word, one_number, fitting, alone}
-use Rattle.script_text.specs.Header.{Setup, start_sizes, most_nodes, is_start, new_start, start_with, start_line, start_of, is_setup, with_room, with_spare, room_line, spare_line, left_of, fits_left, fault_line, setup_line, with_line}
+use Rattle.script_text.specs.Header.{Setup, start_sizes, most_nodes, is_start, new_start, start_with, start_line, start_of, is_setup, with_room, room_line, spare_line, left_of, fits_left, fault_line, setup_line, with_line}
 use Rattle.script_text.specs.Script.{ScriptValue, line_of, said_by, line_then, body_of, with_lines, setup_then, setup_in, new_setup, header_then, script_in, judged}
 
 pub bind_ok : {A B E : Type 0} (r : Result A E) (f : A → Result B E) (y : B) → (r >>= f) ≡ Ok y → (x : A) × (r ≡ Ok x) × (f x ≡ Ok y)
@@ -183,7 +183,7 @@ spare_leg s word args l is =
     let room = bind_ok (one_number args) _ (Spare l) is in
     let found = ok_or_some (guarded (is_ok (start_sizes (with_room s room.0))) (Room room.0)) kinds.Range (Spare l) room.2 in
     let made = guarded_some (is_ok (start_sizes (with_room s room.0))) (Room room.0) (Spare l) found in
-    absurd (not_spare_room made.1))
+    absurd (not_spare_room {room = room.0} {l = l} made.1))
     (λ is. chosen (bytes_eq word (codes "spare")) _ _ (Ok (Spare l)) _ is
     (λ is.
     let leg = bind_ok (one_number args) _ (Spare l) is in
@@ -201,7 +201,7 @@ spare_leg s word args l is =
     let fault : FaultLine = record { leg = leg.0; transfer = transfer.0; new = new.0 } in
     let found = ok_or_some (guarded (nat_lt leg.0 s.legs) (Fault fault)) kinds.Range (Spare l) new.2 in
     let made = guarded_some (nat_lt leg.0 s.legs) (Fault fault) (Spare l) found in
-    absurd (not_spare_fault made.1)))
+    absurd (not_spare_fault {f = fault} {l = l} made.1)))
 
 -- an array has at most eight legs
 few_legs : (low high : Bool) (rest : Result Sizes GeomError) → is_ok (cond (low || high) (Err Legs) rest) ≡ true → high ≡ false

@@ -5,7 +5,6 @@ use Rattle.std.proofs.lemmas.List.{append_assoc, take_all, take-append-le, lengt
 use Rattle.std.proofs.lemmas.Slice.Eq.{bytes_eq-Decides}
 use Rattle.std.proofs.Math.Seq.{take-append-add}
 use Rattle.std.specs.Str.{bytes_eq, is_utf8}
-use Rattle.script_text.specs.declared.script.Line.{Line}
 use Rattle.script_text.specs.declared.faults.FaultKind.{FaultKind}
 use Rattle.script_text.specs.declared.faults.FaultKind.TheVariants as kinds
 use Rattle.script_text.specs.declared.faults.ScriptFault.{ScriptFault}

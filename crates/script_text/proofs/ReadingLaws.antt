@@ -4,10 +4,10 @@ use Rattle.std.proofs.lemmas.Bool.Decides.{nat_tests}
 use Rattle.std.proofs.lemmas.List.{append_assoc, drop_all, drop-drop, length-drop}
 use Rattle.std.proofs.lemmas.Str.{IsUtf8-from_is_utf8, is_utf8-from_IsUtf8}
 use Rattle.std.specs.Borrow.{Bor}
-use Rattle.std.specs.Prelude.{is_some, codes}
-use Rattle.std.specs.Result.{MatchResult, result_ok}
+use Rattle.std.specs.Prelude.{is_some}
+use Rattle.std.specs.Result.{MatchResult}
 use Rattle.std.specs.Option.{option_copied}
-use Rattle.std.specs.Str.{IsUtf8, is_utf8, bytes_eq}
+use Rattle.std.specs.Str.{IsUtf8, is_utf8}
 use Rattle.script_text.specs.declared.script.Start.{Start}
 use Rattle.script_text.specs.declared.script.FaultLine.{FaultLine}
 use Rattle.script_text.specs.declared.header.SetupLine.{SetupLine}
@@ -21,7 +21,7 @@ use Rattle.script_text.specs.Lines.{lines_of, words_after, script_limit}
 use Rattle.script_text.specs.Places.{line_in, first_line, line_at}
 use Rattle.script_text.specs.Reading.{BeginsWithLine, HasFault, HasLine, ReadsLine, words_read, body_at, setup_at}
 use Rattle.script_text.proofs.LinesLaws.{words_some}
-use Rattle.script_text.specs.Script.{ScriptValue, said_by, words_said, line_of, line_then, onto_lines, body_of, with_lines, setup_then, setup_in, header_then, script_in, new_setup, judged}
+use Rattle.script_text.specs.Script.{ScriptValue, said_by, words_said, line_of, line_then, onto_lines, body_of, with_lines, setup_then, setup_in, header_then, script_in, new_setup}
 
 not_text : (bytes : List ℕ) → ¬ (IsUtf8 bytes) → is_utf8 bytes ≡ false
 not_text bytes wrong = elim (is_utf8 bytes) as (λ b. is_utf8 bytes ≡ b → b ≡ false) [

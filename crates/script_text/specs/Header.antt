@@ -1,5 +1,5 @@
 -- What begins a script: the header, and the lines between it and the others.
-use Rattle.std.specs.Prelude.{ℕ, ◌==◌, nat_le, nat_lt, Bool, true, false, not, ◌&&◌, ◌||◌, is_ok, is_some, if◌then◌else◌, List, [], ◌∷◌, ◌++◌, codes, Option, Some, None, Result, Ok, Err, ok_or}
+use Rattle.std.specs.Prelude.{ℕ, nat_le, nat_lt, Bool, true, false, ◌&&◌, ◌||◌, is_ok, is_some, if◌then◌else◌, List, [], ◌∷◌, ◌++◌, codes, Option, Some, None, Result, Err, ok_or}
 use Rattle.std.specs.Str.{bytes_eq}
 use Rattle.mdc_types.specs.Bits.{with_bit}
 use Rattle.mdc_types.specs.Geometry.{Sizes, geometry_of}
@@ -12,7 +12,7 @@ use Rattle.script_text.specs.declared.faults.FaultKind.{FaultKind}
 use Rattle.script_text.specs.declared.faults.FaultKind.TheVariants as kinds
 use Rattle.script_text.specs.Steps.{guarded}
 use Rattle.script_text.specs.Judging.{◌>>=◌}
-use Rattle.script_text.specs.Lines.{one, three, four, third}
+use Rattle.script_text.specs.Lines.{three, four, third}
 use Rattle.script_text.specs.Arguments.{number_word, one_number, fitting}
 
 -- the array of a script, and its transfers that fail

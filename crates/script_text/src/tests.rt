@@ -196,7 +196,8 @@ fn long_scripts(rt: HostRuntime) -> Result<(), Fail> {
 
 #[test]
 fn parts_of_scripts(rt: HostRuntime) -> Result<(), Fail> {
-    let text = "# two legs\narray2 3 16 4 9\nroom 20\nspare 2\nfault 1 7 new\nspare 1\n\nw 0 5 6869\nslot 2 1\noffer 3 range 4 8\nend\n";
+    let text =
+        "# two legs\narray2 3 16 4 9\nroom 20\nspare 2\nfault 1 7 new\nspare 1\n\nw 0 5 6869\nslot 2 1\noffer 3 range 4 8\nend\n";
     let script = read_script(rt.alloc(), text.as_bytes())
         .ok()
         .ok_or("a script")?;

@@ -1,5 +1,5 @@
 use Rattle.std.proofs.Common.{sym}
-use Rattle.script_text.proofs.ReadingLaws.{some_more, no_more}
+use Rattle.script_text.proofs.ReadingLaws.{some_more}
 use Rattle.script_text.proofs.arguments.alone.Goals as goal
 
 pub returns-then-is_some : goal.returns-then-is_some

@@ -1,4 +1,4 @@
-use Rattle.std.proofs.Common.{◌≡◌, drop, sym, subst, ◌∙◌, ap, Ok, arith}
+use Rattle.std.proofs.Common.{sym, subst, ◌∙◌, ap, Ok, arith}
 use Rattle.std.specs.Str.{IsValidUpTo, valid_up_to}
 use Rattle.script_text.specs.Reading.{BeginsWithLine}
 use Rattle.script_text.proofs.ReadingLaws.{too_long, wrong_text, right_text, line_read}

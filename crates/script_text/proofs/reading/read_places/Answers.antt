@@ -1,5 +1,4 @@
-use Rattle.std.proofs.Common.{◌≡◌, ◌+◌, ℕ, List, Vec, Global, subst, sym, ◌∙◌, ap, arith}
-use Rattle.script_text.specs.Judging.{at_line}
+use Rattle.std.proofs.Common.{◌+◌, ℕ, List, Vec, Global, subst, sym, ◌∙◌, ap, arith}
 use Rattle.script_text.specs.Reading.{body_at}
 use Rattle.script_text.proofs.GrammarLaws.{at_line_ok}
 use Rattle.script_text.proofs.ReadingLaws.{found_line}

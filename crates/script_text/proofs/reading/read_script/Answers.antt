@@ -1,4 +1,4 @@
-use Rattle.std.proofs.Common.{Ok, ap, ◌∙◌}
+use Rattle.std.proofs.Common.{ap, ◌∙◌}
 use Rattle.script_text.specs.Script.{with_lines}
 use Rattle.script_text.proofs.GrammarLaws.{IsSetup, script_is}
 use Rattle.script_text.proofs.reading.read_script.Goals as goal

@@ -1,13 +1,10 @@
-use Rattle.std.proofs.Common.{◌≡◌, ℕ, ◌+◌, ◌-◌, ◌≤◌, List, Vec, Global, Some, None, Ok, subst, sym, ◌∙◌, ap, drop, true, arith}
+use Rattle.std.proofs.Common.{ℕ, ◌≤◌, List, Vec, Global, Ok, subst, sym, ◌∙◌, ap, arith}
 use Rattle.std.specs.Option.{option_copied}
 use Rattle.script_text.specs.declared.script.FaultLine.{FaultLine}
 use Rattle.script_text.specs.declared.script.Start.{Start}
 use Rattle.script_text.specs.declared.header.SetupLine.TheVariants.{Room, Spare, Fault}
-use Rattle.script_text.specs.Header.{Setup, setup_line}
 use Rattle.script_text.specs.Judging.{at_line}
-use Rattle.script_text.specs.Lines.{lines_of, script_limit, words_after}
-use Rattle.script_text.specs.Reading.{HasLine, words_read}
-use Rattle.script_text.specs.Script.{setup_in}
+use Rattle.script_text.specs.Lines.{words_after}
 use Rattle.script_text.proofs.GrammarLaws.{spare_leg, at_line_ok}
 use Rattle.script_text.proofs.ReadingLaws.{setup_goes_on, setup_skips, setup_same, setup_with}
 use Rattle.script_text.proofs.reading.read_setup.Goals as goal

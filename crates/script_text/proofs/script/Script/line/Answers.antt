@@ -1,7 +1,7 @@
-use Rattle.std.proofs.Common.{◌≡◌, ◌<◌, get_or, length, None, Some, sym, ◌∙◌, ap, arith}
+use Rattle.std.proofs.Common.{◌≡◌, get_or, length, None, Some, sym, ◌∙◌, ap, arith}
 use Rattle.std.proofs.lemmas.List.{get_or_default}
 use Rattle.std.specs.List.{slice_get}
-use Rattle.script_text.specs.Places.{line_at, lines_at}
+use Rattle.script_text.specs.Places.{line_at}
 use Rattle.script_text.specs.Script.{ScriptValue, line_of}
 use Rattle.script_text.proofs.PlacesLaws.{lines_length, some_line}
 use Rattle.script_text.proofs.script.Script.line.Goals as goal

@@ -1,4 +1,3 @@
-use Rattle.std.specs.Result.{OnOk, OnErr}
 use Rattle.script_text.proofs.DueLaws.{flushed_ok, flushed_err}
 use Rattle.script_text.proofs.text_out.TextOut.put.Goals as goal
 
