@@ -1,5 +1,5 @@
 -- Sets as lists of their members.
-use Rattle.std.proofs.Common.{◌≡◌, ℕ, zero, suc, ◌+◌, Bool, if◌then◌else◌, List, [], ◌∷◌, ◌++◌, refl, ap, add-one}
+use Rattle.std.proofs.Common.{◌≡◌, ℕ, zero, suc, ◌+◌, Bool, if◌then◌else◌, [], ◌∷◌, ◌++◌, refl, add-one}
 use Rattle.report_text.specs.Sets.{members}
 
 -- one number more

@@ -15,9 +15,7 @@ mod words;
 pub use events::event_text;
 pub use locks::{LockReply, lock_reply_text};
 pub use outcomes::outcome_text;
-pub use queries::{
-    bad_text, legal_text, map_text, record_text, size_text, slot_text, view_text,
-};
+pub use queries::{bad_text, legal_text, map_text, record_text, size_text, slot_text, view_text};
 pub use refusals::refusal_text;
 
 #[cfg(test)]

@@ -7,9 +7,7 @@ ghost use Rattle.report_text.specs.Queries.{view_line, size_line, map_line, slot
 use crate::line::Field::{Number, Numbers, RoleLetters, Word};
 use crate::line::Line::One;
 use crate::line::join;
-use crate::sets::{
-    chunks_on_leg, legs_of, live_nodes, needed_chunks, pending_nodes, set_chunks,
-};
+use crate::sets::{chunks_on_leg, legs_of, live_nodes, needed_chunks, pending_nodes, set_chunks};
 use crate::words::phase_word;
 use leg_failure::View;
 use mdc_types::{LegId, NodeId, NodeState, Roles, Word as Phase};
@@ -65,12 +63,7 @@ pub fn view_text(
 
 /// The text of the query `size N`: `size N out`, `size N joining`, or the size that the node took and
 /// the one that it knows all to have, in sectors. It has no line feed.
-pub fn size_text(
-    alloc: Global,
-    n: NodeId,
-    state: NodeState,
-    v: &View,
-) -> Result<String, AllocError>
+pub fn size_text(alloc: Global, n: NodeId, state: NodeState, v: &View) -> Result<String, AllocError>
     ensures { IfOk result (λ t. string_bytes t ≡ size_line n state v.now) }
 {
     let node = Number(u64::from(n));

@@ -13,6 +13,7 @@ use std::alloc::{AllocError, Global};
 use std::fmt::Write;
 
 const LEGS: u8 = 8;
+
 const NODES: u8 = 16;
 
 /// The legs of a set, which has one bit for each.

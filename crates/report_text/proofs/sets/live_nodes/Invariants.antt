@@ -1,6 +1,4 @@
 use Rattle.std.proofs.Common.{◌≡◌}
-use Rattle.mdc_types.specs.Bits.{has_bit}
-use Rattle.node_bitmaps.specs.Map.{bitmap_of}
 use Rattle.node_member.specs.Parts.{members_of}
 use Rattle.report_text.specs.Sets.{members}
 use Rattle.report_text.proofs.sets.live_nodes.Given as goal
