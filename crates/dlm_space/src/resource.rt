@@ -139,7 +139,7 @@ impl Resource {
     }
 
     // The least other holder that disagrees with the mode of the node.
-    fn blocker(&self, node: u8, mode: Mode) -> Option<u8>
+    pub fn blocker(&self, node: u8, mode: Mode) -> Option<u8>
         ensures least { result ≡ blocker (lock_of self.now) node mode }
         ensures node { IfSome result (λ m. m < 16) }
     {

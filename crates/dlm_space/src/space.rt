@@ -1,9 +1,9 @@
-ghost use Rattle.std.specs.Prelude.{◌≡◌, ◌<◌, ℕ, IfOk, OnOk, OnErr, Some};
+ghost use Rattle.std.specs.Prelude.{◌≡◌, ◌<◌, ℕ, IfOk, IfSome, OnOk, OnErr, Some};
 ghost use Rattle.std.specs.Option.{option_map};
 ghost use Rattle.std.specs.Result.{result_err};
 ghost use Rattle.dlm_space.specs.Queues.{head};
 ghost use Rattle.dlm_modes.specs.Points.{with_at};
-ghost use Rattle.dlm_space.specs.Locks.{new_locks, ask_refusal, ask_now_refusal, convert_refusal, convert_now_refusal, grant_refusal, release_refusal, asked, asked_now, converted, converted_now, granted, released, all_let_go, all_died, valid_block, convert_answer, grant_answer, caller};
+ghost use Rattle.dlm_space.specs.Locks.{new_locks, ask_refusal, ask_now_refusal, convert_refusal, convert_now_refusal, grant_refusal, release_refusal, asked, asked_now, converted, converted_now, granted, released, all_let_go, all_died, valid_block, convert_answer, grant_answer, caller, blocker};
 ghost use Rattle.dlm_space.specs.Parts.{locks_of};
 
 use crate::resource::Resource;
@@ -170,6 +170,15 @@ impl Space {
         ensures { result ≡ caller (locks_of self.now res) node }
     {
         self.resources[res].caller(node)
+    }
+
+    /// The least other holder that disagrees with the mode of the node.
+    pub fn blocker(&self, res: usize, node: u8, mode: Mode) -> Option<u8>
+        requires { res < 21 }
+        ensures least { result ≡ blocker (locks_of self.now res) node mode }
+        ensures node { IfSome result (λ m. m < 16) }
+    {
+        self.resources[res].blocker(node, mode)
     }
 
     /// What the node holds.

@@ -1,39 +1,47 @@
 -- That no call which a row makes at once is refused.
-use Rattle.std.proofs.Common.{◌≡◌, ◌≢◌, ◌<◌, ℕ, Bool, true, false, not, List, [], Option, Some, None, refl, sym, ap, ◌∙◌, arith, ◌==◌, ◌&&◌, ◌||◌}
+use Rattle.std.proofs.Common.{◌≡◌, ◌≢◌, ◌<◌, ◌⊎◌, inl, inr, subst, ℕ, Bool, true, false, not, List, [], Option, Some, None, refl, sym, ap, ◌∙◌, arith, ◌==◌, ◌&&◌, ◌||◌}
 use Rattle.std.specs.Prelude.{is_none, is_some}
 use Rattle.std.proofs.lemmas.Bool.Decides.{nat_tests}
 use Rattle.dlm_modes.specs.declared.mode.Mode.{Mode}
 use Rattle.dlm_modes.specs.declared.mode.Mode.TheVariants.{CR, PW, EX}
-use Rattle.dlm_space.specs.Queues.{asks_of}
-use Rattle.dlm_space.specs.Locks.{Lock, blocker, caller, ask_now_refusal, convert_refusal, convert_now_refusal}
+use Rattle.dlm_space.specs.Queues.{asks_of, head, ask_for}
+use Rattle.dlm_space.specs.declared.ask.Ask.{Ask}
+use Rattle.dlm_space.specs.Locks.{Lock, blocker, caller, ask_now_refusal, convert_refusal, convert_now_refusal, grant_refusal}
+use Rattle.mdc_types.specs.declared.resources.Res.{Res}
+use Rattle.mdc_types.specs.declared.resources.Res.TheVariants as resources
 use Rattle.dlm_space.specs.Orderly.{agree}
 use Rattle.mdc_types.specs.declared.events.Event.TheVariants as events
 use Rattle.mdc_types.specs.declared.refusals.Refusal.TheVariants.{Blocked}
 use Rattle.mdc_types.specs.declared.roles.NodeState.{NodeState}
 use Rattle.mdc_types.specs.declared.roles.NodeState.TheVariants as states
 use Rattle.msg_rounds.specs.Holds.{receives_by_ack, sends_by_ack, sends_by_message, ack_conversion}
-use Rattle.msg_rounds.specs.Locks.{message_res, ack_res}
+use Rattle.msg_rounds.specs.Holds.{MayTake, MayResume}
+use Rattle.msg_rounds.specs.Locks.{token_res, message_res, ack_res}
 use Rattle.msg_rounds.specs.Phases.{is_idle, may_receive}
 use Rattle.msg_rounds.specs.Refusals.{is_ex, is_token_held, is_message_held, is_offered, is_taken, is_pr, may_resume}
 use Rattle.msg_rounds.specs.declared.phases.SenderPhase.{SenderPhase}
 use Rattle.msg_rounds.specs.declared.phases.ReceiverPhase.{ReceiverPhase}
 use Rattle.msg_rounds.specs.declared.phases.ReceiverPhase.TheVariants as receivers
 use Rattle.laws_rounds.specs.Machine as rounds
+use Rattle.laws_rounds.specs.News.{news_at, heads}
 use Rattle.laws_rounds.specs.Sound.{SoundAt}
-use Rattle.laws_rounds.proofs.Follows.{reached_sound}
+use Rattle.laws_rounds.proofs.Tells.{message_head, PrHead, MessageHead}
+use Rattle.laws_rounds.proofs.Follows.{reached_sound, reached_tells, may_take, may_resume as resume_holds}
 use Rattle.cluster_model.specs.State.{Core, Held}
 use Rattle.cluster_model.specs.Guards.{refused_by, no_node, not_fenced, is_out}
 use Rattle.cluster_model.specs.Phases.{is_up, is_joining, is_held, copy_word, recovery_word, is_none as is_none_word}
 use Rattle.cluster_model.specs.Changes.{no_new_dev}
+use Rattle.cluster_model.specs.Granting.{asker, not_grantable}
 use Rattle.cluster_model.specs.Rounds.{is_announced}
 use Rattle.cluster_model.specs.Table.{refusal}
 use Rattle.laws_locks.specs.Following.{rounds_at}
 use Rattle.laws_locks.specs.Rounded.{has_token, Rounded}
 use Rattle.laws_locks.specs.Others.{recovers, writes_slot, device_fits, OtherLocks}
-use Rattle.laws_locks.specs.Unblocked.{Unblocked}
+use Rattle.laws_locks.specs.Unblocked.{Unblocked, served, news_refusal, message_news}
 use Rattle.laws_locks.proofs.Guarded.{first_none, tested, refused_none, a_node, living}
 use Rattle.laws_locks.proofs.Told.{joining_is, token_is}
-use Rattle.laws_locks.proofs.Keeping.{Kept}
+use Rattle.laws_locks.proofs.Keeping.{Kept, inv_at}
+use Rattle.laws_locks.proofs.Granting.{grantable, grant_guard}
 use Rattle.laws_locks.proofs.Facts.{rounded}
 use Rattle.laws_locks.proofs.Words.{turn_held_is, no_recovery}
 use Rattle.laws_locks.proofs.Holders.{others_agree, nobody_blocks}
@@ -168,21 +176,31 @@ module _ (members : ℕ → Bool) (past : List rounds.Entry) (core : Core) (k : 
       held_token : (s : SenderPhase) → is_token_held s ≡ true → has_token s ≡ true
       held_token s e = grind arith
 
-  take_free : (n : ℕ) → refusal core (events.Take n) ≡ None → ask_now_refusal (core.locks message_res) n CR ≡ None
-  take_free n e =
+  takes : (n : ℕ) → refusal core (events.Take n) ≡ None → MayTake core.locks n
+  takes n e =
       let l = living core n _ k.nodes e in
       let a = tested (is_up (core.state n)) _ _ l.rest in
       let b = tested (is_idle (core.receiver n).phase) _ _ a.1 in
       let c = tested (is_some (caller (core.locks ack_res) n)) _ _ b.1 in
-      let m = sound.may_take n (rw b.0 (rw c.0 refl)) in
+      may_take core.locks n (sound.may_take n (rw b.0 (rw c.0 refl)))
+
+  take_free : (n : ℕ) → refusal core (events.Take n) ≡ None → ask_now_refusal (core.locks message_res) n CR ≡ None
+  take_free n e =
+      let m = takes n e in
       may_ask_now (core.locks message_res) n CR m.free.0 m.free.1 (λ j ne. agree_cr _ (m.readable j ne))
+
+  resumes : (n : ℕ) → refusal core (events.Resume n) ≡ None → MayResume core.locks n
+  resumes n e =
+      let l = living core n _ k.nodes e in
+      let a = tested (may_resume (core.receiver n).phase) _ _ l.rest in
+      let b = tested (is_pr ((core.locks message_res).held n)) _ _ a.1 in
+      resume_holds core.locks n (sound.may_resume n (rw a.0 (rw b.0 refl)))
 
   resume_free : (n : ℕ) → refusal core (events.Resume n) ≡ None → ask_now_refusal (core.locks ack_res) n CR ≡ None
   resume_free n e =
       let l = living core n _ k.nodes e in
       let a = tested (may_resume (core.receiver n).phase) _ _ l.rest in
-      let b = tested (is_pr ((core.locks message_res).held n)) _ _ a.1 in
-      let m = sound.may_resume n (rw a.0 (rw b.0 refl)) in
+      let m = resumes n e in
       let p = resume_phase _ a.0 in
       let h = (sound.holds n).receiver in
       may_ask_now (core.locks ack_res) n CR (waits_ack _ _ p.0 (h.ack p.0) p.1) (h.ack_requests p.0) (λ j ne. agree_cr _ (m.takeable j ne))
@@ -220,6 +238,26 @@ module _ (members : ℕ → Bool) (past : List rounds.Entry) (core : Core) (k : 
       own_slot : (held : Option Mode) (live : Bool) (n : ℕ) (b : Bool) → held ≡ writes_slot (((n == n) && live) || b) → live ≡ true → is_some held ≡ true
       own_slot held live n b e f = grind (arith, nat_tests)
 
+  -- the rounds' own guards of the news of a grant
+  news : (r : ℕ) (a : Ask) → ((r ≡ token_res) ⊎ (r ≡ message_res) ⊎ (r ≡ ack_res)) → head (core.locks r).conversions (core.locks r).requests ≡ Some a → heads (rounds_at core) r ≡ Some a
+      → not_grantable (core.locks r) (Some a) ≡ None → grant_refusal ((rounds_at core).locks r) ≡ grant_refusal (core.locks r)
+      → rounds.May (rounds.after (rounds_at core) (rounds.Grant r)) (news_at r a)
+  news r a is h w e same = (reached_tells members past (rounds_at core) k.follows.reaches).may r a (is, same ∙ grantable (core.locks r) a e h) w
+
+  message_may : (n : ℕ) (mode : Mode) → rounds.May (rounds.after (rounds_at core) (rounds.Grant message_res)) (news_at message_res (ask_for n mode)) → PrHead (rounds_at core) (ask_for n mode) ⊎ MessageHead (rounds_at core) (ask_for n mode) → message_news (served core.locks resources.Message) core n mode ≡ None
+  message_may n mode m (inl p) = subst (λ v. rounds.May (rounds.after (rounds_at core) (rounds.Grant message_res)) (news_at message_res (ask_for n v)) → message_news (served core.locks resources.Message) core n v ≡ None) (sym p.mode) (λ x. x) m
+  message_may n mode m (inr p) = subst (λ v. rounds.May (rounds.after (rounds_at core) (rounds.Grant message_res)) (news_at message_res (ask_for n v)) → message_news (served core.locks resources.Message) core n v ≡ None) (sym p.mode) (λ x. x) m
+
+  told : (res : Res) (a : Ask) → refusal core (events.Grant res) ≡ None → asker core res ≡ Some a → news_refusal (served core.locks res) core res a ≡ None
+  told (resources.Bitmap n) a e h = refl
+  told resources.NoNewDev a e h = refl
+  told resources.Resync a e h = refl
+  told resources.Token a e h = news token_res a (inl refl) h h (rw h at (grant_guard core resources.Token e)) refl
+  told resources.Ack a e h = news ack_res a (inr (inr refl)) h h (rw h at (grant_guard core resources.Ack e)) refl
+  told resources.Message a e h =
+      message_may a.node a.mode (news message_res a (inr (inl refl)) h h (rw h at (grant_guard core resources.Message e)) refl)
+      (message_head (rounds_at core) a (inv_at members past (rounds_at core) k.follows.reaches).queues h)
+
   pub unblocked : Unblocked core
   unblocked = record {
     join = join_free;
@@ -228,6 +266,8 @@ module _ (members : ℕ → Bool) (past : List rounds.Entry) (core : Core) (k : 
     up_device = λ n e. (up_free n e).1;
     take = take_free;
     resume = resume_free;
+    may_take = takes;
+    may_resume = resumes;
     processed = processed_free;
     lock_asks = λ n e none. may_ask_now (core.locks no_new_dev) n EX (none_is _ none) (ap (asks_of n) o.device.requests) (lock_others n e);
     lock_converts = λ n e some. may_convert_now (core.locks no_new_dev) n EX some (ap (asks_of n) o.device.conversions) (lock_others n e);
@@ -235,4 +275,5 @@ module _ (members : ℕ → Bool) (past : List rounds.Entry) (core : Core) (k : 
     message = λ n e. (publish_free n e).0;
     ack = λ n e. (publish_free n e).1;
     range = λ n e. (publish_free n e).2;
+    told = told;
   }

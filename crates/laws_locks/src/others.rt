@@ -17,7 +17,8 @@ pub fn other_locks_hold()
 /// bitmap of a node that joins, and on a dead node's of one that recovers it; CR on `ack` and on
 /// `no-new-dev` of who comes in, on `message` of who takes, on `ack` of who resumes, and on `no-
 /// new-dev` of who processes and has nothing there; EX there of who locks the device; and the
-/// conversions of a publish, and of EX on `no-new-dev` where a round is given up.
+/// conversions of a publish, and of EX on `no-new-dev` where a round is given up. And who is granted
+/// a lock of the rounds is in the phase that asks it.
 pub fn nothing_is_blocked()
     ensures { NothingIsBlocked }
 {}

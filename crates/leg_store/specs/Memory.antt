@@ -1,6 +1,7 @@
 -- A leg in memory, and which of its transfers fail.
-use Rattle.std.specs.Prelude.{ℕ, ◌+◌, ◌-◌, ◌^◌, ◌==◌, min, if◌then◌else◌, List, [], ◌∷◌, slice_set, Option, Some, None}
+use Rattle.std.specs.Prelude.{ℕ, List, slice_set, Option, Some, None}
 use Rattle.mdc_types.specs.declared.numbers.Sector.{Sector}
+use Rattle.leg_store.specs.Plans.{Plan, entry_for, one_more}
 use Rattle.leg_store.specs.declared.memory.Left.{Left}
 use Rattle.leg_store.specs.declared.memory.Left.TheVariants.{Old, New}
 
@@ -16,18 +17,13 @@ pub record Memory : Type 0 where
 abbrev pub told : Memory → Option (List Sector)
 told leg = Some leg.sectors
 
--- a count of 64 bits, which stays at its last value
-abbrev pub one_more : ℕ → ℕ
-one_more count = min (count + 1) (2 ^ 64 - 1)
-
--- what the first entry for this number says
-abbrev pub entry_for : ℕ → List (ℕ × Left) → Option Left
-entry_for number [] = None
-entry_for number (entry ∷ entries) = if entry.0 == number then Some entry.1 else entry_for number entries
-
 -- whether the next transfer fails, and what it leaves
 abbrev pub next_failure : Memory → Option Left
 next_failure leg = entry_for leg.transfers leg.failing
+
+-- what a leg in memory tells of its transfers
+abbrev pub plan_of : Memory → Option Plan
+plan_of leg = Some (record { failing = leg.failing; transfers = leg.transfers })
 
 abbrev pub counted : Memory → Memory
 counted leg = record leg { transfers = one_more leg.transfers }

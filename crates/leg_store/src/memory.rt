@@ -1,7 +1,8 @@
 ghost use Rattle.std.specs.Prelude.{◌≡◌, ◌<◌, ◌≤◌, ◌^◌, [], length, Some, None, vec_len, slice_get, is_none, is_ok, IsOk, IsSome, IfOk, MatchResult, refl, true};
 ghost use Rattle.mdc_types.specs.Faults.{HasCause, Rose};
 ghost use Rattle.leg_store.specs.Leg.{Gives, put, LeftOldOrNew};
-ghost use Rattle.leg_store.specs.Memory.{told, entry_for, next_failure, after_read, after_write, with_sector};
+ghost use Rattle.leg_store.specs.Plans.{Plan, entry_for, GoesByPlan, LeavesByPlan};
+ghost use Rattle.leg_store.specs.Memory.{told, plan_of, next_failure, after_read, after_write, with_sector};
 
 use crate::LegDev;
 use mdc_types::{Failed, Sector};
@@ -110,6 +111,8 @@ impl LegDev for MemLeg {
 
     ghost faults = { λ leg. leg.faults };
 
+    ghost plan = { plan_of };
+
     ghost told_length = { λ leg. refl };
 
     fn length(&self) -> u32 {
@@ -128,6 +131,7 @@ impl LegDev for MemLeg {
         ensures value { IfOk result (λ v. Gives (told self.old) at v) }
         ensures contents { told self.new ≡ told self.old }
         ensures size { length self.new.sectors ≡ length self.old.sectors }
+        ensures plan { GoesByPlan (plan_of self.old) (is_ok result) (plan_of self.new) }
         ensures cause { HasCause (λ e. true) self.old.faults self.new.faults result }
     {
         if self.failure().is_some() {
@@ -148,6 +152,8 @@ impl LegDev for MemLeg {
             (λ _. told self.new ≡ put (told self.old) at value.now)
             (λ _. LeftOldOrNew (told self.old) at value.now (told self.new)) }
         ensures size { length self.new.sectors ≡ length self.old.sectors }
+        ensures plan { GoesByPlan (plan_of self.old) (is_ok result) (plan_of self.new) }
+        ensures left { LeavesByPlan (plan_of self.old) (told self.old) at value.now (told self.new) }
         ensures cause { HasCause (λ e. true) self.old.faults self.new.faults result }
     {
         match self.failure() {

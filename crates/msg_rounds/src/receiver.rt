@@ -19,7 +19,7 @@ use std::marker::Model;
 ///
 /// Contracts see the phase, the sender of the message that was taken last, and whether it was told that
 /// this sender died before its round was over.
-#[derive(Drop)]
+#[derive(Clone, Copy)]
 pub struct Receiver {
     phase: ReceiverPhase,
     from: NodeId,
@@ -32,6 +32,8 @@ impl Model for Receiver {
     ghost Value = { Receiving };
 
     ghost view = { λ r. record { phase = r.phase; from = r.from; gone = r.gone } };
+
+    ghost inverse = { λ r. record { phase = r.phase; from = r.from; gone = r.gone } };
 }
 
 // The node at the head of the queue on `ack`, where it calls this node.
@@ -93,6 +95,20 @@ impl Receiver {
             _ if self.gone => Some(self.from),
             _ => None,
         }
+    }
+
+    /// The sender of the message that was taken last, 0 where none was.
+    pub fn sender(&self) -> NodeId
+        ensures { result ≡ self.now.from }
+    {
+        self.from
+    }
+
+    /// Whether that sender is known to have died before its round was over.
+    pub fn is_gone(&self) -> bool
+        ensures { result ≡ self.now.gone }
+    {
+        self.gone
     }
 
     fn not_phase(&self) -> RoundError

@@ -20,7 +20,7 @@ use std::marker::Model;
 /// Each call takes the lock space and the node, which is below 16.
 ///
 /// Contracts see the phase.
-#[derive(Drop)]
+#[derive(Clone, Copy)]
 pub struct Sender {
     phase: SenderPhase,
 }
@@ -31,6 +31,8 @@ impl Model for Sender {
     ghost Value = { SenderPhase };
 
     ghost view = { λ s. s.phase };
+
+    ghost inverse = { λ p. record { phase = p } };
 }
 
 // EX on the resource is granted to the node.

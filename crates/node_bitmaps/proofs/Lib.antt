@@ -5,3 +5,4 @@ pub mod SearchLaws
 pub mod PageLaws
 pub mod LegLaws
 pub mod LookLaws
+pub mod OpenLaws

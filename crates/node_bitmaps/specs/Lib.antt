@@ -1,3 +1,4 @@
 pub mod Bitmap
 pub mod Cells
 pub mod Map
+pub mod Opened

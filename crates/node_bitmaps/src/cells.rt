@@ -1,10 +1,11 @@
 // The cells of a map, one for each chunk, and its pages, one byte for each.
-ghost use Rattle.std.specs.Prelude.{◌≡◌, ◌<◌, ◌≤◌, ◌-◌, ℕ, ◌==◌, not, ◌&&◌, ◌||◌, if◌then◌else◌, List, false, length, get_or, slice_set, is_some};
+ghost use Rattle.std.specs.Prelude.{◌≡◌, ◌<◌, ◌≤◌, ◌-◌, ℕ, ◌==◌, nat_lt, not, ◌&&◌, ◌||◌, if◌then◌else◌, List, false, length, get_or, slice_set, is_some};
 ghost use Rattle.dlm_modes.specs.First.{first_such};
 ghost use Rattle.mdc_types.specs.Bits.{has_bit};
 ghost use Rattle.mdc_types.specs.Geometry.{Sizes, chunks_of, page_of};
 ghost use Rattle.slot_pages.specs.Slot.{chunk_bit, page_has};
 ghost use Rattle.node_bitmaps.specs.Cells.{no_cell, cell_at, bits_of, page_chunk, SameButMarks, SameButNeed};
+ghost use Rattle.node_bitmaps.specs.Opened.{opened};
 ghost use Rattle.node_bitmaps.specs.Bitmap.{with_set, with_need, entered, exited, written, failed, found_page, with_new_legs, forgotten};
 
 use mdc_types::{ChunkNo, ChunkSet, LegId, PageNo, Sector, has_leg, with_leg, without_leg};
@@ -330,4 +331,38 @@ pub fn needed_into(cells: &[Cell], into: &mut ChunkSet)
     for c in 0..into.chunks() {
         put_flag(into, c, cells[c as usize].needed);
     }
+}
+
+// The legs below a count.
+#[tactic(auto, using(crate::proofs::OpenLaws::more_below, crate::proofs::OpenLaws::none_below))]
+fn legs_below(count: u8) -> u8
+    requires { count ≤ 8 }
+    ensures { (l : ℕ) → has_bit result l ≡ nat_lt l count }
+{
+    let mut legs = 0;
+    for l in 0..count {
+        legs = with_leg(legs, l);
+    }
+    legs
+}
+
+// A chunk that is set on all these legs, or not set.
+fn opened_cell(all: u8, warm: bool) -> Cell
+    ensures { result ≡ record no_cell { set = warm; marks = if warm then all else 0 } }
+{
+    Cell {
+        set: warm,
+        marks: if warm { all } else { 0 },
+        ..Cell::NONE
+    }
+}
+
+/// A member opens: all chunks are set, or none, and this stands on so many legs.
+pub fn open_member(cells: &mut [Cell], fresh: &mut [u8], legs: u8, warm: bool)
+    requires { legs ≤ 8 }
+    ensures { bits_of cells.new fresh.new ≡ opened (length cells.old) (length fresh.old) legs warm }
+{
+    let all = legs_below(legs);
+    cells.fill(opened_cell(all, warm));
+    fresh.fill(all);
 }

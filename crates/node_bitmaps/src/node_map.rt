@@ -6,6 +6,7 @@ ghost use Rattle.mdc_types.specs.Sectors.{IsSector};
 ghost use Rattle.slot_pages.specs.Slot.{Spells, page_has};
 ghost use Rattle.node_bitmaps.specs.Bitmap.{empty, with_set, with_need, entered, exited, written, failed, with_new_leg, with_new_legs, found_page, forgotten};
 ghost use Rattle.node_bitmaps.specs.Bitmap.{first_set, first_needed, first_needed_of, first_old, old_target, first_unmarked, unmarked_target, unmarked_target_of};
+ghost use Rattle.node_bitmaps.specs.Opened.{opened};
 ghost use Rattle.node_bitmaps.specs.Map.{bitmap_of, chunks_in, pages_in, HasSize};
 
 use crate::cells::Cell;
@@ -315,6 +316,16 @@ impl NodeMap {
         ensures size { HasSize self.new (chunks_in self.old) (pages_in self.old) }
     {
         cells::forget_all(&mut self.cells, &mut self.fresh);
+    }
+
+    /// The node opens as a member: all its chunks are set, or none is, this stands on so many legs, and
+    /// all pages are fresh there. Nothing is to be copied, and there is no live write.
+    pub fn open_member(&mut self, legs: u8, warm: bool)
+        requires { legs ≤ 8 }
+        ensures bits { bitmap_of self.new ≡ opened (chunks_in self.old) (pages_in self.old) legs warm }
+        ensures size { HasSize self.new (chunks_in self.old) (pages_in self.old) }
+    {
+        cells::open_member(&mut self.cells, &mut self.fresh, legs, warm);
     }
 
     /// Page `p` of the node's slot, by its set: what `write_page` gives of it.

@@ -1,8 +1,9 @@
 -- A pass after a call, as functions.
-use Rattle.std.proofs.Common.{◌≡◌, ℕ, ◌<◌, ◌≤◌, ◌^◌, ◌==◌, Bool, false, not, ◌&&◌, inl, inr, arith, if◌then◌else◌}
+use Rattle.std.proofs.Common.{◌≡◌, ℕ, ◌<◌, ◌≤◌, ◌^◌, ◌==◌, nat_lt, Bool, true, false, length, get_or, replicate, List, not, ◌&&◌, inl, inr, arith, if◌then◌else◌}
 use Rattle.std.proofs.Math.Path.{fun_ext}
 use Rattle.std.proofs.lemmas.Bool.{cases_lt}
 use Rattle.std.proofs.lemmas.Bool.Decides.{nat_tests}
+use Rattle.std.proofs.lemmas.List.{length-replicate, get_or-replicate, get_or_past}
 use Rattle.std.proofs.lemmas.Nat.Bits.{bit_at-lt, bit_at_and, bit_at_above}
 use Rattle.std.specs.Int.Bits.{bit_and}
 use Rattle.dlm_modes.specs.Points.{with_at}
@@ -30,3 +31,13 @@ legs-out set rest l leg small less each = fun_ext (λ k. elim (cases_lt k 8) [
   | inl below ↦ without_at (has_bit set k) (has_bit rest k) k l (each k below)
   | inr past ↦ above_at (has_bit set k) (has_bit rest k) k l leg past (has_bit-past set k small past) (has_bit-past rest k less past)
 ])
+
+all_chunks_at : (n c : ℕ) → get_or (replicate n true) c false ≡ nat_lt c n
+all_chunks_at n c = elim (cases_lt c n) [
+  | inl lt ↦ let here = get_or-replicate n c true false lt in grind (arith, nat_tests)
+  | inr past ↦ let long = length-replicate n true in let none = get_or_past (replicate n true) c false (rw long past) in grind (arith, nat_tests)
+]
+
+-- all chunks are to be copied
+pub all_chunks : (n : ℕ) → ◌≡◌ {A = ℕ → Bool} (λ c. get_or (replicate n true) c false) (λ c. nat_lt c n)
+all_chunks n = fun_ext (all_chunks_at n)

@@ -1,4 +1,4 @@
-ghost use Rattle.std.specs.Prelude.{◌≡◌, ◌<◌, length, get_or, true, false, not, ◌&&◌, is_some, IsNone, IsSome, IfSome, option_map};
+ghost use Rattle.std.specs.Prelude.{◌≡◌, ◌<◌, nat_lt, length, get_or, true, false, not, ◌&&◌, is_some, IsNone, IsSome, IfSome, option_map};
 ghost use Rattle.dlm_modes.specs.First.{first_such};
 ghost use Rattle.mdc_types.specs.Bits.{has_bit};
 ghost use Rattle.mdc_types.specs.Geometry.{chunks_of, chunk_of, chunk_end};
@@ -59,6 +59,28 @@ impl Pass {
             reached: 0,
             buffer: None,
         }
+    }
+
+    /// A new pass over the same array in its place, which copies the chunks of `todo` and covers `legs`.
+    pub fn again(&mut self, todo: &ChunkSet, legs: u8)
+        requires { length todo.now ≡ chunks_of self.old.sizes }
+        ensures pass { passing_of self.new ≡ begun (λ c. get_or todo.now c false) (has_bit legs) }
+        ensures sizes { self.new.sizes ≡ self.old.sizes }
+    {
+        self.todo.copy_from(todo);
+        self.covered = legs;
+        self.restart();
+    }
+
+    /// A new pass over the same array in its place, which copies all chunks and covers `legs`.
+    #[tactic(auto, using(crate::proofs::CopyingLaws::all_chunks))]
+    pub fn again_all(&mut self, legs: u8)
+        ensures pass { passing_of self.new ≡ begun (λ c. nat_lt c (chunks_of self.old.sizes)) (has_bit legs) }
+        ensures sizes { self.new.sizes ≡ self.old.sizes }
+    {
+        self.todo.fill();
+        self.covered = legs;
+        self.restart();
     }
 
     /// The chunks that weren't copied. Their set's memory serves the next pass.
@@ -175,6 +197,7 @@ impl Pass {
     /// changes, and no chunk is completed.
     pub fn settled(&mut self) -> Option<ChunkNo>
         ensures told { result ≡ completed_of self.old.sizes (passing_of self.old).buffer }
+        ensures range { IfSome result (λ c. c < chunks_of self.old.sizes) }
         ensures pass { passing_of self.new ≡ settled_of self.old.sizes (passing_of self.old) (passing_of self.old).buffer }
         ensures sizes { self.new.sizes ≡ self.old.sizes }
     {

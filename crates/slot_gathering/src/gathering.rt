@@ -1,5 +1,5 @@
-ghost use Rattle.std.specs.Prelude.{◌≡◌, ◌<◌, true, IfOk, IfSome, is_some};
-ghost use Rattle.mdc_types.specs.Geometry.{nodes_of, pages_of, slot_pages};
+ghost use Rattle.std.specs.Prelude.{◌≡◌, ◌<◌, true, length, IfOk, IfSome, is_some};
+ghost use Rattle.mdc_types.specs.Geometry.{chunks_of, nodes_of, pages_of, slot_pages};
 ghost use Rattle.slot_pages.specs.Slot.{page_has};
 ghost use Rattle.slot_gathering.specs.Gatherings.{none_gathered, page_to_gather, due_page, gathered_page};
 ghost use Rattle.slot_gathering.specs.Kept.{gathering_of};
@@ -81,7 +81,8 @@ impl Gathering {
 
     /// The chunks gathered so far.
     pub fn gathered(&self) -> &ChunkSet
-        ensures { result.now ≡ self.now.gathered }
+        ensures value { result.now ≡ self.now.gathered }
+        ensures chunks { length result.now ≡ chunks_of self.now.sizes }
     {
         &self.gathered
     }

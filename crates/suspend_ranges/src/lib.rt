@@ -18,7 +18,7 @@ use std::marker::Model;
 ///
 /// Contracts see the list of the ranges by owner, and speak of the function from owners to ranges that
 /// it stands for.
-#[derive(Drop)]
+#[derive(Clone, Copy)]
 pub struct SuspendList {
     ranges: [Option<Range>; 16],
 }
@@ -30,6 +30,8 @@ impl Model for SuspendList {
     ghost Value = { List (Option Range) };
 
     ghost view = { λ l. l.ranges };
+
+    ghost inverse = { λ ranges. record { ranges = ranges } };
 }
 
 impl SuspendList {

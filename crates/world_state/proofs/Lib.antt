@@ -1,4 +1,7 @@
-pub mod Headers
-pub mod LegLaws
-pub mod NodeLaws
-pub mod Openings
+pub mod Found
+pub mod SetLaws
+pub mod Points
+pub mod Setting
+mod LegLaws
+pub mod Carrying
+pub mod Changing

@@ -1,2 +1,4 @@
-pub mod Seen
+pub mod Changed
+pub mod Kept
 pub mod Told
+pub mod Ready

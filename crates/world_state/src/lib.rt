@@ -1,15 +1,19 @@
-//! The machine's state in memory: what an array opens with, the parts of a node, the state without the
-//! legs, and the transfers between a node and a leg.
+//! The machine's state in memory: what an array opens with, the state without the legs, the
+//! transfers between a node and a leg, and the changes that several rows make.
 #![tactic(auto)]
 
-mod body;
+mod attempt;
+mod changes;
+mod checks;
 mod legs;
-mod node;
-mod opening;
+mod offer;
+mod sets;
+mod setters;
 mod state;
 
-pub use body::{Body, note};
+pub use attempt::Attempt;
+pub use checks::check;
 pub use legs::{receive, send};
-pub use node::NodeParts;
-pub use opening::Opening;
+pub use offer::Offer;
+pub use sets::{fresh_targets, rebuilding_of};
 pub use state::CoreState;

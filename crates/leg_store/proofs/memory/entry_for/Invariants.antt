@@ -1,5 +1,5 @@
 use Rattle.std.proofs.Common.{◌≡◌, drop}
-use Rattle.leg_store.specs.Memory.{entry_for}
+use Rattle.leg_store.specs.Plans.{entry_for}
 use Rattle.leg_store.proofs.memory.entry_for.Given as goal
 
 abbrev pub invariant-loop-at : goal.invariant-loop-at

@@ -1,0 +1,8 @@
+use Rattle.cluster_model.specs.State.{Adding}
+use Rattle.cluster_model.specs.Finishing.{adding_after}
+use Rattle.node_copies.specs.Additions.{adding_in, IsOf, no_place}
+use Rattle.node_copies.proofs.TableLaws.{place_call}
+use Rattle.node_copies.proofs.additions.Additions.after.Goals as goal
+
+pub returns-clause-adding : goal.returns-clause-adding
+returns-clause-adding c = rw (← c.self.view_is) (place_call adding_in (IsOf c.self.inside.geometry) (λ (a : Adding). adding_after a c.args.wish.now) no_place c.self.inside.places.items c.args.n c.index_mut.result.now (c.after.new.x) c.self.invariant c.requires c.index_mut.ensures.value (c.after.ensures.adding))

@@ -1,0 +1,4 @@
+pub mod Flights
+mod Sectors
+mod Room
+pub mod Guarded

@@ -1,3 +1,0 @@
-mod Effecting
-mod Guarding
-mod Reading

@@ -1,0 +1,11 @@
+use Rattle.std.proofs.Common.{◌≡◌, ap, subst}
+use Rattle.world_members.specs.Changes.{round_awaited}
+use Rattle.world_state.specs.contracts.state.CoreState.{the_view}
+use Rattle.world_state.specs.Kept.{Kept, core_of}
+use Rattle.world_members.proofs.changes.await_round.Goals as goal
+
+pub returns : goal.returns
+returns c =
+    let k = the_view c.core.inside in
+    let P : Kept → Type 0 = λ q. core_of (record k { receivers = c.process.new.receivers; space = c.process.new.space }) ≡ round_awaited (core_of q) c.args.n in
+    subst P c.core.view_is (λ i. record (core_of k) { receiver = c.process.ensures.receiver i; locks = c.process.ensures.locks i })

@@ -1,0 +1,11 @@
+use Rattle.std.proofs.Common.{◌≡◌, ap, subst}
+use Rattle.world_members.specs.Changes.{round_over}
+use Rattle.world_state.specs.contracts.state.CoreState.{the_view}
+use Rattle.world_state.specs.Kept.{Kept, core_of}
+use Rattle.world_members.proofs.changes.end_round.Goals as goal
+
+pub returns-clause-core : goal.returns-clause-core
+returns-clause-core c =
+    let k = the_view c.core.inside in
+    let P : Kept → Type 0 = λ q. core_of (record k { receivers = c.resume.new.receivers; space = c.resume.new.space }) ≡ round_over (core_of q) c.args.n in
+    subst P c.core.view_is (λ i. record (core_of k) { receiver = c.resume.ensures.receiver i; locks = c.resume.ensures.locks i })

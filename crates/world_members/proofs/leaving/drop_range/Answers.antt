@@ -1,0 +1,11 @@
+use Rattle.std.proofs.Common.{◌≡◌, ap, subst}
+use Rattle.world_members.specs.Changes.{range_dropped}
+use Rattle.world_state.specs.contracts.state.CoreState.{the_view}
+use Rattle.world_state.specs.Kept.{Kept, core_of}
+use Rattle.world_members.proofs.leaving.drop_range.Goals as goal
+
+pub returns : goal.returns
+returns c =
+    let k = the_view c.core.inside in
+    let P : Kept → Type 0 = λ q. core_of (record k { suspended = c.drop_owner.new.lists }) ≡ range_dropped (core_of q) c.args.n in
+    subst P c.core.view_is (ap (λ f. record (core_of k) { suspended = f }) c.drop_owner.ensures)

@@ -1,0 +1,12 @@
+use Rattle.std.proofs.Common.{◌≡◌, true, ap, subst}
+use Rattle.cluster_model.specs.Granting.{path_is}
+use Rattle.world_state.specs.contracts.state.CoreState.{the_view}
+use Rattle.world_state.specs.Kept.{Kept, core_of}
+use Rattle.world_members.proofs.Stepping.{path_cut}
+use Rattle.world_members.proofs.paths.cut.Goals as goal
+
+pub returns-clause-after : goal.returns-clause-after
+returns-clause-after c =
+    let k = the_view c.core.inside in
+    let P : Kept → Type 0 = λ q. core_of (record k { paths = c.cut.new.self }) ≡ path_is (core_of q) c.args.n c.args.l true in
+    subst P c.core.view_is (ap (λ f. record (core_of k) { cut = f }) (path_cut k.paths c.cut.new.self c.args.n c.args.l c.cut.ensures))

@@ -1,0 +1,7 @@
+use Rattle.std.proofs.Common.{arith}
+use Rattle.suspend_ranges.specs.Suspended.{entry_of}
+use Rattle.world_members.proofs.Replacing.{suspended-put}
+use Rattle.world_members.proofs.tables.put_range.Goals as goal
+
+pub returns : goal.returns
+returns c = suspended-put c.args.lists.now c.args.n c.args.o _ c.put.new.self (entry_of c.args.r) (omega arith) c.put.ensures

@@ -1,0 +1,2 @@
+-- Members come in one after another.
+use Rattle.std.proofs.Common.{refl}

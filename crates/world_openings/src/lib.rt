@@ -1,0 +1,7 @@
+//! What an array opens with, the state at its opening, and the legs of a header in memory.
+#![tactic(auto)]
+
+mod opened;
+mod opening;
+
+pub use opening::Opening;
