@@ -6,12 +6,12 @@ ghost use Rattle.std.specs.Prelude.{◌≡◌, drop};
 mod array;
 mod checking;
 mod endings;
-mod lines;
 mod locks;
 mod play;
+mod playing;
+mod queries;
 mod status;
-#[cfg(test)]
-mod tests;
+mod stub;
 
 use crate::play::play;
 use crate::status::Status;

@@ -1,4 +1,0 @@
-mod Answering
-mod Blanks
-mod Played
-mod Traced

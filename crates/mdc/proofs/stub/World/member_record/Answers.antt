@@ -1,0 +1,4 @@
+use Rattle.mdc.proofs.stub.World.member_record.Goals as goal
+
+pub unreachable-requires : goal.unreachable-requires
+unreachable-requires c = ?

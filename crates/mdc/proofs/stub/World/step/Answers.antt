@@ -1,0 +1,4 @@
+use Rattle.mdc.proofs.stub.World.step.Goals as goal
+
+pub unreachable-requires : goal.unreachable-requires
+unreachable-requires c = ?
