@@ -1,7 +1,6 @@
-ghost use Rattle.std.specs.Prelude.{◌≡◌, ◌≤◌, ◌<◌, true, false, is_ok, [], IfOk};
+ghost use Rattle.std.specs.Prelude.{◌≡◌, ◌≤◌, ◌<◌, true, false, is_ok, IfOk};
 ghost use Rattle.mdc_types.specs.Bits.{has_bit};
-ghost use Rattle.cluster_model.specs.Contents.{Opens};
-ghost use Rattle.mdc.specs.World.{state};
+ghost use Rattle.cluster_model.specs.Opening.{IsOrigin};
 ghost use Rattle.script_text.specs.Header.{start_sizes, most_nodes};
 ghost use Rattle.mdc.specs.Opened.{stand, Starts, origin_of, sizes_of, faults_of, left_by, IsNewLeg, AreNewLegs};
 
@@ -39,7 +38,8 @@ fn new_leg(
     faults: &[FaultLine],
     l: LegId,
 ) -> Result<MemLeg, AllocError>
-    requires { l < opening.now.sizes.legs }
+    requires origin { IsOrigin opening.now }
+    requires leg { l < opening.now.sizes.legs }
     ensures { IfOk result (λ leg. IsNewLeg opening.now faults.now l leg) }
 {
     header_leg(alloc, opening, l, leg_faults(alloc, faults, l)?)
@@ -50,6 +50,7 @@ fn new_legs(
     opening: &Opening,
     faults: &[FaultLine],
 ) -> Result<Vec<MemLeg>, AllocError>
+    requires { IsOrigin opening.now }
     ensures { IfOk result (λ legs. AreNewLegs opening.now faults.now opening.now.sizes.legs legs.items) }
 {
     let count = opening.geometry().legs();

@@ -147,10 +147,14 @@ pub fn play_lines<L: LegDev, K: Sink>(
     ensures later { K.faults sink.old ≤ K.faults sink.new }
 {
     for i in 0..script.len() {
-        match play_line(alloc, world, script.line(i), out, sink) {
+        world.history();
+        let played = play_line(alloc, world, script.line(i), out, sink);
+        world.history();
+        match played {
             Ok(()) => {}
             Err(why) => return Err(why),
         }
     }
+    world.history();
     Ok(())
 }

@@ -1,6 +1,6 @@
 ghost use Rattle.std.specs.Prelude.{◌≡◌, ◌<◌, ◌≤◌, ◌-◌, ◌^◌, ◌↔◌, ◌⊎◌, [], ◌∷◌, ℕ, true, false, None, Some, Ok, Err, min, map, reverse, length, get_or, IfOk, IfErr, OnOk, OnErr};
 ghost use Rattle.mdc_types.specs.Bits.{has_bit};
-ghost use Rattle.mdc_types.specs.Geometry.{nodes_of, chunks_of, length_of};
+ghost use Rattle.mdc_types.specs.Geometry.{nodes_of, length_of};
 ghost use Rattle.mdc_types.specs.Sectors.{zero_sector};
 ghost use Rattle.mdc_types.specs.declared.refusals.Refusal.{Refusal};
 ghost use Rattle.mdc_types.specs.declared.roles.NodeState.TheVariants.{Out};
@@ -91,10 +91,11 @@ pub fn header_leg(
     l: LegId,
     faults: Vec<(u32, Left)>,
 ) -> Result<MemLeg, AllocError>
-    requires { l < opening.now.sizes.legs }
-    ensures leg { IfOk result (λ leg. leg ≡ record { sectors = leg.sectors; failing = faults.items; transfers = 0; faults = 0 }) }
-    ensures sectors { IfOk result (λ leg. length leg.sectors ≡ length_of opening.now.sizes) }
-    ensures contents { IfOk result (λ leg. (at : ℕ) → at < length_of opening.now.sizes → get_or leg.sectors at zero_sector ≡ header_sector opening.now l at) }
+    requires origin { IsOrigin opening.now }
+    requires leg { l < opening.now.sizes.legs }
+    ensures faults { IfOk result (λ leg. (leg.failing ≡ faults.items) × (leg.transfers ≡ 0) × (leg.faults ≡ 0)) }
+    ensures length { IfOk result (λ leg. length leg.sectors ≡ length_of opening.now.sizes) }
+    ensures sectors { IfOk result (λ leg. (at : ℕ) → at < length_of opening.now.sizes → get_or leg.sectors at zero_sector ≡ header_sector opening.now l at) }
 {
     unreachable!()
 }
@@ -137,7 +138,7 @@ impl<L: LegDev> World<L> {
         requires origin { IsOrigin opening }
         requires fits { Fits opening.sizes (map L.size legs.items) }
         requires contents { IsHeader opening (legs_of (map L.contents legs.items)) ⊎ IsImages opening (legs_of (map L.contents legs.items)) }
-        ensures origin { IfOk result (λ w. w.origin ≡ opening) }
+        ensures opening { IfOk result (λ w. w.origin ≡ opening) }
         ensures core { IfOk result (λ w. core_of w.kept ≡ core_at opening) }
         ensures legs { IfOk result (λ w. w.legs ≡ seen_of L.contents L.size L.faults L.plan legs.items) }
         ensures past { IfOk result (λ w. w.past ≡ []) }
@@ -186,8 +187,7 @@ impl<L: LegDev> World<L> {
 
     pub fn map(&self, n: NodeId) -> &NodeMap
         requires { n < 16 }
-        ensures map { result.now ≡ map_at self.now.kept.bitmaps.maps n }
-        ensures chunks { length result.now.set ≡ chunks_of self.now.kept.identity.geometry }
+        ensures { result.now ≡ map_at self.now.kept.bitmaps.maps n }
     {
         unreachable!()
     }

@@ -1,0 +1,4 @@
+mod Within
+mod Header
+mod Played
+mod Answering
