@@ -1,6 +1,6 @@
 -- From the lines that were played to what the program answers.
 use Rattle.std.proofs.Common.{◌≡◌, inl, inr, ℕ, ◌<◌, ◌≤◌, ◌⊎◌, arith, Option, Some, None, Ok, Err, Bool, true, false, cond, List, [], ◌∷◌, ◌++◌, length, take, refl, sym, ◌∙◌, ap, subst}
-use Rattle.std.specs.Prelude.{reverse, slice_get, codes}
+use Rattle.std.specs.Prelude.{reverse, slice_get, codes, IfSome}
 use Rattle.std.proofs.lemmas.List.{append_assoc}
 use Rattle.std.proofs.Math.Seq.{take-length}
 use Rattle.mdc_types.specs.Faults.{Rose}
@@ -21,7 +21,8 @@ use Rattle.script_text.specs.declared.locks.LockLine.{LockLine}
 use Rattle.script_text.specs.declared.faults.ScriptFault.{ScriptFault}
 use Rattle.script_text.specs.declared.script.Line.{Line}
 use Rattle.script_text.specs.Locks.{IsLockScript, lock_script_of, lock_fault_of}
-use Rattle.script_text.specs.Outside.{with_back, WroteFront, IsDue}
+use Rattle.script_text.specs.Lines.{input_part}
+use Rattle.script_text.specs.Outside.{with_front, with_back, WroteFront, IsDue, TookOfPart}
 use Rattle.script_text.specs.Script.{ScriptValue, IsScript, script_of, fault_of}
 use Rattle.script_text.specs.Words.{command_of}
 use Rattle.script_text.proofs.DueLaws.{due_all, due_cut_all}
@@ -278,3 +279,13 @@ pub words_fit : (words : List (List ℕ)) → command_of words ≡ Err Memory �
 words_fit [] is = cc
 words_fit (word ∷ []) is = chosen (bytes_eq word (codes "play")) _ _ _ _ is (λ is. cc) (λ is. chosen (bytes_eq word (codes "locks")) _ _ _ _ is (λ is. cc) (λ is. cc))
 words_fit (word ∷ other ∷ words) is = cc
+
+-- what was read is no more than the part
+pub took : (old new : Option (List ℕ)) (bytes : List ℕ) → old ≡ with_front bytes new
+    → IfSome old (λ left. bytes ≡ input_part left) → TookOfPart old new
+took None None bytes is part = refl
+took None (Some x) bytes is part = cc
+took (Some left) new bytes is part = (
+  length bytes,
+  is ∙ ap (λ b. with_front b new) (sym (ap (take (length bytes)) (sym part) ∙ take-length bytes)),
+)
