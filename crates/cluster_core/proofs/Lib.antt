@@ -1,1 +1,3 @@
+mod Quietly
+mod Readying
 mod Reaching

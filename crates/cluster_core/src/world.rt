@@ -1,18 +1,26 @@
-ghost use Rattle.std.specs.Prelude.{◌≡◌, ◌<◌, ◌≤◌, ◌-◌, ◌^◌, ◌↔◌, [], ◌∷◌, ℕ, true, None, Some, Ok, Err, min, map, reverse, length, IfOk, IfErr, IsErr, IsOk, OnOk, OnErr, IsErrOf};
+ghost use Rattle.std.specs.Prelude.{◌≡◌, ◌<◌, ◌≤◌, ◌-◌, ◌^◌, ◌⊎◌, ◌↔◌, [], ◌∷◌, ℕ, true, None, Some, Ok, Err, min, map, reverse, length, get_or, IfOk, IfErr, IsErr, IsOk, OnOk, OnErr, IsErrOf};
 ghost use Rattle.mdc_types.specs.declared.refusals.Refusal.{Refusal};
-ghost use Rattle.io_model.specs.Opening.{IsOrigin, core_at};
-ghost use Rattle.io_model.specs.Table.{refusal, is_built};
-ghost use Rattle.io_model.specs.Run.{Step, entry};
-ghost use Rattle.world_state.specs.Seen.{core_of};
-ghost use Rattle.world_state.specs.Told.{Fits, Caused, legs_of};
-ghost use Rattle.cluster_core.specs.World.{state, Reachable, HasBase, trace_limit};
+ghost use Rattle.mdc_types.specs.declared.roles.NodeState.TheVariants.{Out};
+ghost use Rattle.cluster_model.specs.Opening.{IsOrigin, core_at};
+ghost use Rattle.cluster_model.specs.Contents.{IsHeader, IsImages};
+ghost use Rattle.cluster_model.specs.Table.{refusal};
+ghost use Rattle.cluster_model.specs.Run.{entry};
+ghost use Rattle.node_bits.specs.Bitmaps.{map_at};
+ghost use Rattle.world_state.specs.Kept.{core_of, no_parts};
+ghost use Rattle.world_state.specs.Told.{Fits, Carries, legs_of, seen_of as legs_seen};
+ghost use Rattle.cluster_core.specs.World.{Reachable, trace_limit};
 
 use crate::apply::{apply, may};
+use laws_rounds::told_rounds_go_on;
+use leg_failure::View;
 use leg_store::LegDev;
-use mdc_types::{Entry, Event, Outcome, Refusal};
+use mdc_types::{Entry, Event, Geometry, NodeId, NodeState, Outcome, Refusal};
+use node_bitmaps::NodeMap;
+use node_member::Record;
 use std::alloc::{AllocError, Global};
 use std::marker::Model;
-use world_state::{Body, CoreState, Opening};
+use world_openings::{Opening, open_state};
+use world_state::CoreState;
 
 /// The most entries of a trace.
 pub const TRACE_LIMIT: usize = 65_536;
@@ -38,7 +46,9 @@ pub struct NoWorld<L: LegDev> {
 #[derive(Drop)]
 pub struct World<L: LegDev> {
     opening: Opening,
-    body: Body<L>,
+    core: CoreState,
+    legs: Vec<L>,
+    trace: Vec<Entry>,
 }
 
 impl<L: LegDev> Model for World<L> {
@@ -47,9 +57,9 @@ impl<L: LegDev> Model for World<L> {
 
     ghost Value = { Seen };
 
-    ghost view = { λ w. seen_of L.contents L.size L.faults w.opening w.body.core w.body.legs.items w.body.trace.items (vec_capacity w.body.trace - vec_len w.body.trace) };
+    ghost view = { λ w. seen_of L.contents L.size L.faults L.plan w.opening w.core w.legs.items w.trace.items (vec_capacity w.trace - vec_len w.trace) };
 
-    ghost invariant = { λ w. Reachable (seen_of L.contents L.size L.faults w.opening w.body.core w.body.legs.items w.body.trace.items (vec_capacity w.body.trace - vec_len w.body.trace)) };
+    ghost invariant = { λ w. Reachable (seen_of L.contents L.size L.faults L.plan w.opening w.core w.legs.items w.trace.items (vec_capacity w.trace - vec_len w.trace)) };
 }
 
 impl<L: LegDev> World<L> {
@@ -58,23 +68,20 @@ impl<L: LegDev> World<L> {
     pub fn open(alloc: Global, legs: Vec<L>, opening: Opening) -> Result<World<L>, NoWorld<L>>
         requires origin { IsOrigin opening }
         requires fits { Fits opening.sizes (map L.size legs.items) }
-        requires base { HasBase opening (legs_of (map L.contents legs.items)) }
+        requires contents { IsHeader opening (legs_of (map L.contents legs.items)) ⊎ IsImages opening (legs_of (map L.contents legs.items)) }
         ensures opening { IfOk result (λ w. w.origin ≡ opening) }
-        ensures core { IfOk result (λ w. core_of w.parts ≡ core_at opening) }
-        ensures contents { IfOk result (λ w. w.contents ≡ map L.contents legs.items) }
-        ensures faults { IfOk result (λ w. w.faults ≡ map L.faults legs.items) }
+        ensures core { IfOk result (λ w. core_of w.kept ≡ core_at opening) }
+        ensures legs { IfOk result (λ w. w.legs ≡ legs_seen L.contents L.size L.faults L.plan legs.items) }
         ensures past { IfOk result (λ w. w.past ≡ []) }
         ensures back { IfErr result (λ e. (e.legs ≡ legs) × (e.opening ≡ opening)) }
     {
-        match CoreState::new(alloc, &opening) {
+        match open_state(alloc, &opening) {
             Err(_) => Err(NoWorld { legs, opening }),
             Ok(core) => Ok(World {
                 opening,
-                body: Body {
-                    core,
-                    legs,
-                    trace: Vec::new(alloc),
-                },
+                core,
+                legs,
+                trace: Vec::new(alloc),
             }),
         }
     }
@@ -90,21 +97,59 @@ impl<L: LegDev> World<L> {
     pub fn trace(&self) -> &[Entry]
         ensures { self.now.past ≡ reverse result.now }
     {
-        self.body.trace.as_slice()
+        self.trace.as_slice()
+    }
+
+    /// The sizes of the array.
+    pub fn geometry(&self) -> Geometry
+        ensures { result ≡ self.now.kept.identity.geometry }
+    {
+        self.core.identity.geometry
+    }
+
+    /// Whether the node is out, joining, loaded or up.
+    pub fn node_state(&self, n: NodeId) -> NodeState
+        requires { n < 16 }
+        ensures { result ≡ get_or self.now.kept.states n Out }
+    {
+        self.core.states[n as usize]
+    }
+
+    /// The node's view of the legs.
+    pub fn view(&self, n: NodeId) -> &View
+        requires { n < 16 }
+        ensures { result.now ≡ get_or self.now.kept.views n no_parts }
+    {
+        &self.core.views[n as usize]
+    }
+
+    /// The node's bitmap.
+    pub fn map(&self, n: NodeId) -> &NodeMap
+        requires { n < 16 }
+        ensures { result.now ≡ map_at self.now.kept.bitmaps.maps n }
+    {
+        self.core.bitmaps.map(n)
+    }
+
+    /// The record of the members.
+    pub fn member_record(&self) -> &Record
+        ensures { result.now ≡ self.now.kept.members }
+    {
+        &self.core.members
     }
 
     /// A run from a state that belongs to the opening led to where the world is.
     pub fn history(&self)
         ensures { Reachable self.now }
     {
-        let _body = &self.body;
+        let _legs = &self.legs;
     }
 
     /// How many entries more there is memory for, as far as a `u32` tells.
     pub fn spare(&self) -> u32
         ensures { result ≡ min self.now.spare (2 ^ 32 - 1) }
     {
-        let spare = self.body.trace.capacity() - self.body.trace.len();
+        let spare = self.trace.capacity() - self.trace.len();
         u32::try_from(spare).unwrap_or(u32::MAX)
     }
 
@@ -114,33 +159,34 @@ impl<L: LegDev> World<L> {
         ensures more { self.old.spare ≤ self.new.spare }
         ensures same { self.new ≡ record self.old { spare = self.new.spare } }
     {
-        self.body.trace.reserve(n as usize)
+        self.trace.reserve(n as usize)
     }
 
     /// One event: its outcome and one entry more where its guards hold, and nothing else.
     pub fn step(&mut self, e: Event) -> Result<Outcome, StepEnd>
-        requires { is_built e ≡ true }
-        ensures step { IfOk result (λ o. Step (state self.old) e o (state self.new)) }
+        ensures carried { IfOk result (λ o. Carries e o self.old.kept self.old.legs self.new.kept self.new.legs) }
         ensures entry { IfOk result (λ o. self.new.past ≡ entry e o ∷ self.old.past) }
         ensures origin { self.new.origin ≡ self.old.origin }
-        ensures cause { IfOk result (λ o. Caused (core_of self.old.parts) e o self.old.faults self.new.faults) }
         ensures err { OnErr result (self.new ≡ self.old) }
-        ensures refused { (r : Refusal) → result ≡ Err (StepEnd.Refused r) → refusal (core_of self.old.parts) e ≡ Some r }
-        ensures exact { (r : Refusal) → refusal (core_of self.old.parts) e ≡ Some r → result ≡ Err (StepEnd.Refused r) }
-        ensures full { result ≡ Err StepEnd.TraceFull → (refusal (core_of self.old.parts) e ≡ None) × (length self.old.past ≡ trace_limit) }
-        ensures limit { refusal (core_of self.old.parts) e ≡ None → length self.old.past ≡ trace_limit → result ≡ Err StepEnd.TraceFull }
+        ensures refused { (r : Refusal) → result ≡ Err (StepEnd.Refused r) → refusal (core_of self.old.kept) e ≡ Some r }
+        ensures exact { (r : Refusal) → refusal (core_of self.old.kept) e ≡ Some r → result ≡ Err (StepEnd.Refused r) }
+        ensures full { result ≡ Err StepEnd.TraceFull → (refusal (core_of self.old.kept) e ≡ None) × (length self.old.past ≡ trace_limit) }
+        ensures limit { refusal (core_of self.old.kept) e ≡ None → length self.old.past ≡ trace_limit → result ≡ Err StepEnd.TraceFull }
         ensures reserved { 0 < self.old.spare → result ≡ Err StepEnd.Memory → ⊥ }
         ensures spare { OnOk result (self.old.spare - 1 ≤ self.new.spare) }
     {
-        if let Err(r) = may(&self.body.core, &e) {
+        told_rounds_go_on();
+        if let Err(r) = may(&self.core, &e) {
             return Err(StepEnd::Refused(r));
         }
-        if self.body.trace.len() >= TRACE_LIMIT {
+        if self.trace.len() >= TRACE_LIMIT {
             return Err(StepEnd::TraceFull);
         }
-        if self.body.trace.reserve(1).is_err() {
+        if self.trace.reserve(1).is_err() {
             return Err(StepEnd::Memory);
         }
-        Ok(apply(&mut self.body, e))
+        let outcome = apply(&mut self.core, &mut self.legs, e);
+        self.trace.push_reserved(Entry { event: e, outcome });
+        Ok(outcome)
     }
 }

@@ -306,7 +306,11 @@ mod tests {
         bitmaps.open_member(2, false);
         bitmaps.set(2, 3);
         bitmaps.page_out(2, 0, 1);
-        for (n, first, old) in [(0, None, Some(0)), (1, Some(0), None), (2, Some(3), Some(0))] {
+        for (n, first, old) in [
+            (0, None, Some(0)),
+            (1, Some(0), None),
+            (2, Some(3), Some(0)),
+        ] {
             assert_eq!(rt; bitmaps.first_set(n), first, "set of node {n}");
             assert_eq!(rt; bitmaps.old_target(n, 0b11), old, "pages of node {n}");
         }

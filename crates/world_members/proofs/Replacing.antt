@@ -1,20 +1,18 @@
 -- What is read of tables that are changed at one node.
-use Rattle.std.proofs.Common.{◌≡◌, ◌<◌, ◌≤◌, ◌+◌, ◌==◌, ◌&&◌, ◌||◌, ℕ, zero, suc, Bool, true, false, List, [], ◌∷◌, length, set, Option, Some, None, refl, sym, ap, ◌∙◌, arith, if◌then◌else◌}
-use Rattle.std.specs.Prelude.{get_or, replicate, nat_lt}
+use Rattle.std.proofs.Common.{◌≡◌, ◌<◌, ◌≤◌, ◌+◌, ◌==◌, ◌&&◌, ℕ, zero, suc, Bool, true, false, List, [], ◌∷◌, length, set, Option, None, refl, sym, ap, ◌∙◌, subst, arith, if◌then◌else◌}
+use Rattle.std.specs.Prelude.{get_or, nat_lt}
 use Rattle.std.proofs.lemmas.Bool.Decides.{nat_tests}
 use Rattle.std.proofs.lemmas.List.{get_or_default, get_or_past}
 use Rattle.std.proofs.Math.Path.{fun_ext}
 use Rattle.dlm_modes.specs.Points.{with_at}
 use Rattle.mdc_types.specs.declared.numbers.Range.{Range}
-use Rattle.msg_rounds.specs.Phases.{Receiving, new_receiving, heard_death}
-use Rattle.msg_rounds.specs.declared.phases.SenderPhase.{SenderPhase}
-use Rattle.msg_rounds.specs.declared.phases.SenderPhase.TheVariants.{Idle}
+use Rattle.msg_rounds.specs.Phases.{Receiving, new_receiving}
 use Rattle.suspend_ranges.specs.Suspended.{ranges_of}
-use Rattle.cluster_model.specs.State as machine
 use Rattle.world_state.specs.Kept.{tried_of}
-use Rattle.world_members.specs.Tables.{senders_of, receivers_of, heads_of, all_tries, suspended_of}
 use Rattle.world_state.specs.declared.attempt.Attempt.{Attempt}
 use Rattle.world_state.specs.declared.attempt.Attempt.TheVariants.{Untried}
+use Rattle.world_members.specs.Tables.{receivers_of, all_tries, suspended_of}
+use Rattle.world_members.specs.Tries.{tries_of}
 
 -- what is read of a list with one element replaced
 pub get-set : {A : Type 0} (xs : List A) (n m : ℕ) (v d : A) → n < length xs
@@ -28,6 +26,31 @@ get-set (x ∷ xs) (suc n) (suc m) v d lt = grind (arith, get-set xs n m v d (om
 pub receivers-set : (xs : List Receiving) (n : ℕ) (v : Receiving) → n < length xs
     → receivers_of (set xs n v) ≡ with_at (receivers_of xs) n v
 receivers-set xs n v lt = fun_ext (λ m. get-set xs n m v new_receiving lt)
+
+-- tries
+
+try_from : (n l m j : ℕ) (xs here : List Attempt) (old : List Attempt) (v : Attempt) (b : Bool) → (m == n) ≡ b → l < length xs → (m ≡ n → old ≡ xs)
+    → tries_of (if b then set xs l v else old) j ≡ (if b && (j == l) then tried_of v else tries_of old j)
+try_from n l m j xs here old v true e lt same = ap tried_of (get-set xs l j v Untried lt) ∙ split (j == l) (ap (λ ys. tries_of ys j) (sym (same (grind (arith, nat_tests)))))
+  where
+    split : (c : Bool) → tries_of xs j ≡ tries_of old j → tried_of (if c then v else get_or xs j Untried) ≡ (if c then tried_of v else tries_of old j)
+    split true f = refl
+    split false f = f
+try_from n l m j xs here old v false e lt same = refl
+
+-- the try of one leg by one node
+pub tries-put : (tried : List (List Attempt)) (n l : ℕ) (d new : List Attempt) (v : Attempt) → n < length tried
+    → l < length (get_or tried n d) → new ≡ set (get_or tried n d) l v
+    → all_tries (set tried n new) ≡ (λ m k. if (m == n) && (k == l) then tried_of v else all_tries tried m k)
+tries-put tried n l d new v lt below e = fun_ext (λ m. fun_ext (λ j.
+    ap (λ ys. tries_of ys j) (get-set tried n m new [] lt ∙ ap (λ ys. if m == n then ys else get_or tried m []) e)
+    ∙ try_from n l m j (get_or tried n d) [] (get_or tried m []) v (m == n) refl below (λ same. ap (λ i. get_or tried i []) same ∙ sym (get_or_default tried n d [] lt))))
+
+pub tries-put_at : (tried : List (List Attempt)) (n l : ℕ) (got new : List Attempt) (v : Attempt) → n < length tried
+    → got ≡ get_or tried n got → l < length got → new ≡ set got l v
+    → all_tries (set tried n new) ≡ (λ m k. if (m == n) && (k == l) then tried_of v else all_tries tried m k)
+tries-put_at tried n l got new v lt is below e =
+    tries-put tried n l got new v lt (subst (λ xs. l < length xs) is below) (e ∙ ap (λ xs. set xs l v) is)
 
 -- suspended ranges
 

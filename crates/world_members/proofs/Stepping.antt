@@ -1,29 +1,29 @@
 -- What comes of the single changes of a row, one after another.
-use Rattle.std.proofs.Common.{◌≡◌, ◌≢◌, ◌==◌, ◌&&◌, ◌||◌, ◌+◌, ◌<◌, ◌≤◌, ℕ, Bool, true, false, not, Option, Some, None, refl, sym, ap, ◌∙◌, arith, if◌then◌else◌}
+use Rattle.std.proofs.Common.{◌≡◌, ◌==◌, ◌&&◌, ◌||◌, ℕ, Bool, true, false, not, Option, Some, None, refl, ap, ◌∙◌, arith, if◌then◌else◌}
 use Rattle.std.specs.Prelude.{is_none}
-use Rattle.std.proofs.lemmas.Bool.Decides.{nat_tests}
 use Rattle.std.proofs.Math.Path.{fun_ext}
 use Rattle.dlm_modes.specs.Points.{with_at}
-use Rattle.mdc_types.specs.declared.events.Event.TheVariants.{Resume}
+use Rattle.mdc_types.specs.declared.events.Event.TheVariants.{Load, Resume}
 use Rattle.mdc_types.specs.declared.numbers.Range.{Range}
+use Rattle.mdc_types.specs.declared.numbers.Sector.{Sector}
 use Rattle.mdc_types.specs.declared.outcomes.Outcome.{Outcome}
 use Rattle.mdc_types.specs.declared.outcomes.Outcome.TheVariants.{Broken, Whole}
 use Rattle.mdc_types.specs.declared.roles.NodeState.TheVariants.{Loaded}
-use Rattle.dlm_space.specs.Locks.{Lock, let_go}
-use Rattle.dlm_modes.specs.declared.mode.Mode.{Mode}
+use Rattle.dlm_space.specs.Locks.{Lock}
 use Rattle.leg_store.specs.Paths.{Paths, path_open, cut_path, mend_path}
 use Rattle.leg_failure.specs.Views.{NodeView}
 use Rattle.cluster_msgs.specs.declared.msg.Msg.{Msg}
 use Rattle.cluster_msgs.specs.declared.msg.Body.{Body}
 use Rattle.cluster_msgs.specs.declared.msg.Body.TheVariants as bodies
-use Rattle.msg_rounds.specs.Locks.{message_res, ack_res}
 use Rattle.cluster_model.specs.State.{Core}
-use Rattle.cluster_model.specs.After.{after}
+use Rattle.cluster_model.specs.After.{after, tried_as}
 use Rattle.cluster_model.specs.Changes.{no_new_dev, sender_idle, node_out, with_view}
-use Rattle.cluster_model.specs.Granting.{path_is}
-use Rattle.cluster_model.specs.Joining.{newest, view_from, range_of_member, up}
+use Rattle.cluster_model.specs.Joining.{loaded, newest, view_from, range_of_member, up}
+use Rattle.cluster_model.specs.Outcomes.{load_outcome}
+use Rattle.md_superblock.specs.Arrays.{Says, says_in}
+use Rattle.world_state.specs.Told.{has_failed}
 use Rattle.cluster_model.specs.Leaving.{die}
-use Rattle.cluster_model.specs.Processing.{device_lock_kept, see_device, do_body, do_message}
+use Rattle.cluster_model.specs.Processing.{device_lock_kept, do_body, do_message}
 use Rattle.cluster_model.specs.Receiving.{told_state, resume, resume_outcome}
 use Rattle.world_members.specs.Changes.{in_state, tries_over, member_died, locks_entered, locks_lost, suspends_at, range_dropped, receivers_told, requests_ended, hears, round_over, view_resumed_if}
 
@@ -77,6 +77,17 @@ up_steps core n v ranges e f =
     ap (λ w. in_state (tries_over (suspends_at (with_view (locks_entered core n) n w) n ranges) n) n Loaded) e
     ∙ ap (λ r. in_state (tries_over (suspends_at (with_view (locks_entered core n) n (view_from (core.tried n) (newest (core.tried n)))) n r) n) n Loaded) f
     ∙ entered core n
+
+-- A superblock.
+
+pub super_after : (core : Core) (n l : ℕ) (v : Sector) (x : Option Says) → x ≡ says_in core.array l v.bytes
+    → loaded core n l (tried_as x) ≡ after core (Load n l) (load_outcome l v x)
+super_after core n l v None e = refl
+super_after core n l v (Some says) e = ap (λ y. loaded core n l (tried_as y)) e
+
+pub no_failure : (l : ℕ) (v : Sector) (x : Option Says) → has_failed (load_outcome l v x) ≡ false
+no_failure l v None = refl
+no_failure l v (Some says) = refl
 
 -- The end of a round.
 

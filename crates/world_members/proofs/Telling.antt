@@ -1,20 +1,19 @@
 -- What a row tells whose guards refuse nothing: no call that it makes is refused.
-use Rattle.std.proofs.Common.{◌≡◌, ◌≢◌, ◌<◌, ◌≤◌, ◌==◌, ◌&&◌, ℕ, Bool, true, false, not, List, [], ◌∷◌, Option, Some, None, refl, sym, ap, ◌∙◌, arith, if◌then◌else◌}
-use Rattle.std.specs.Prelude.{is_some, nat_lt, IfSome}
+use Rattle.std.proofs.Common.{◌≡◌, ◌<◌, ◌≤◌, ◌==◌, ℕ, Bool, true, false, not, List, [], ◌∷◌, Option, Some, None, refl, sym, ap, ◌∙◌, arith, if◌then◌else◌}
+use Rattle.std.specs.Prelude.{is_some, nat_lt, IfSome, length, get_or}
 use Rattle.std.proofs.lemmas.Bool.Decides.{nat_tests}
 use Rattle.dlm_modes.specs.Guards.{unless, or_then, first_of}
 use Rattle.dlm_modes.specs.Points.{with_at}
-use Rattle.mdc_types.specs.declared.events.Event.{Event}
 use Rattle.mdc_types.specs.declared.events.Event.TheVariants as events
 use Rattle.mdc_types.specs.declared.refusals.Refusal.TheVariants.{NotUp}
 use Rattle.mdc_types.specs.declared.roles.NodeState.{NodeState}
 use Rattle.mdc_types.specs.declared.roles.NodeState.TheVariants as states
 use Rattle.dlm_space.specs.Locks.{Lock, caller}
-use Rattle.node_member.specs.Members.{Members, fenced, join_refusal, die_refusal}
+use Rattle.node_member.specs.Members.{fenced, join_refusal, die_refusal}
 use Rattle.msg_rounds.specs.Holds.{SenderHolds, ReceiverHolds}
 use Rattle.msg_rounds.specs.Locks.{token_res, message_res, ack_res}
-use Rattle.msg_rounds.specs.Phases.{Receiving, is_idle, has_published}
-use Rattle.msg_rounds.specs.Refusals.{ask_token_refusal, take_refusal, processed_refusal, resume_refusal, drop_refusal, is_taken, is_pr, may_resume}
+use Rattle.msg_rounds.specs.Phases.{is_idle, has_published}
+use Rattle.msg_rounds.specs.Refusals.{take_refusal, processed_refusal, resume_refusal, drop_refusal, is_taken, is_pr, may_resume}
 use Rattle.msg_rounds.specs.declared.phases.SenderPhase.{SenderPhase}
 use Rattle.msg_rounds.specs.declared.phases.SenderPhase.TheVariants as senders
 use Rattle.msg_rounds.specs.declared.phases.ReceiverPhase.{ReceiverPhase}
@@ -23,13 +22,16 @@ use Rattle.cluster_msgs.specs.Messages.{IsInRange}
 use Rattle.cluster_msgs.specs.Reading.{message_in}
 use Rattle.cluster_msgs.specs.declared.msg.Msg.{Msg}
 use Rattle.cluster_msgs.proofs.Said.{says_what_is_spelled}
-use Rattle.cluster_model.specs.State.{Core}
-use Rattle.cluster_model.specs.Guards.{no_node, not_fenced, no_leg, is_out}
+use Rattle.cluster_model.specs.State.{Core, sizes}
+use Rattle.cluster_model.specs.Transfers.{reads_from}
+use Rattle.world_state.specs.Ready.{Ready}
+use Rattle.world_state.specs.Told.{Fits}
+use Rattle.cluster_model.specs.Guards.{no_node, is_out}
 use Rattle.cluster_model.specs.Phases.{is_up}
 use Rattle.cluster_model.specs.Table.{refusal}
 use Rattle.laws_locks.specs.Rounded.{Rounded}
 use Rattle.laws_sound.specs.Laws.{MessagesRead}
-use Rattle.laws_locks.proofs.Guarded.{first_none, unless_none, tested, a_node, living}
+use Rattle.laws_locks.proofs.Guarded.{first_none, tested, a_node, living}
 use Rattle.laws_locks.proofs.Told.{not_live}
 
 both : {R : Type 0} (a b : Bool) (r s : R) → a ≡ true → b ≡ true → or_then (unless a r) (unless b s) ≡ None
@@ -39,9 +41,6 @@ each_of_three : {R : Type 0} (a b c : Bool) (r s t : R) → a ≡ true → b ≡
     → first_of (unless a r ∷ unless b s ∷ unless c t ∷ []) ≡ None
 each_of_three a b c r s t e f g = rw e (rw f (rw g refl))
 
-lives : (live : Bool) (s : NodeState) → live ≡ not (is_out s) → not (is_out s) ≡ true → live ≡ true
-lives live s e f = e ∙ f
-
 -- Nodes and legs.
 
 pub record PathAt (core : Core) (n l : ℕ) : Type 0 where
@@ -50,22 +49,6 @@ pub record PathAt (core : Core) (n l : ℕ) : Type 0 where
 
 leg_is : (l legs : ℕ) → nat_lt l legs ≡ true → l < legs
 leg_is l legs e = grind (arith, nat_tests)
-
--- Death.
-
-pub record DieAt (core : Core) (n : ℕ) : Type 0 where
-  pub node : n < 16
-  pub dies : die_refusal core.members n ≡ None
-
-pub die_at : (core : Core) (n : ℕ) → Rounded core → refusal core (events.Die n) ≡ None → DieAt core n
-die_at core n r e =
-    let a = first_none (no_node core n) _ e in
-    let b = tested (not (fenced core.members n)) _ _ a.1 in
-    let c = tested (not (is_out (core.state n))) (NotUp n) [] b.1 in
-    record {
-      node = a_node core n r.numbered.nodes a.0;
-      dies = both (not (fenced core.members n)) (core.members.live n) _ _ b.0 (lives _ _ (r.numbered.live n) c.0);
-    }
 
 -- Joining.
 
@@ -132,33 +115,7 @@ slot_still locks n x s lt h = sender_still locks (with_at locks n x) n s
     (far n message_res x (locks message_res) lt (omega arith))
     (far n ack_res x (locks ack_res) lt (omega arith)) h
 
--- Leaving.
-
-pub record LeaveAt (core : Core) (n : ℕ) : Type 0 where
-  pub node : n < 16
-  pub live : core.members.live n ≡ true
-
-pub leave_at : (core : Core) (n : ℕ) → Rounded core → refusal core (events.Leave n) ≡ None → LeaveAt core n
-leave_at core n r e =
-    let l = living core n _ r.numbered.nodes e in
-    record { node = l.node; live = r.numbered.live n ∙ ap not l.live }
-
 -- Receiving.
-
-pub record TakeAt (core : Core) (n : ℕ) : Type 0 where
-  pub node : n < 16
-  pub takes : take_refusal core.locks n (core.receiver n) ≡ None
-
-pub take_at : (core : Core) (n : ℕ) → Rounded core → refusal core (events.Take n) ≡ None → TakeAt core n
-take_at core n r e =
-    let l = living core n _ r.numbered.nodes e in
-    let a = tested (is_up (core.state n)) _ _ l.rest in
-    let b = tested (is_idle (core.receiver n).phase) _ _ a.1 in
-    let c = tested (is_some (caller (core.locks ack_res) n)) _ _ b.1 in
-    record {
-      node = l.node;
-      takes = both (is_idle (core.receiver n).phase) (is_some (caller (core.locks ack_res) n)) _ _ b.0 c.0;
-    }
 
 pub record ProcessedAt (core : Core) (n : ℕ) : Type 0 where
   pub node : n < 16
@@ -227,30 +184,7 @@ resume_at core n r e =
       resumes = both (may_resume (core.receiver n).phase) (is_pr ((core.locks message_res).held n)) _ _ a.0 b.0;
     }
 
-pub record DropAt (core : Core) (n : ℕ) : Type 0 where
-  pub node : n < 16
-  pub drops : drop_refusal (core.receiver n) ≡ None
-
-pub drop_at : (core : Core) (n : ℕ) → Rounded core → refusal core (events.DropMessage n) ≡ None → DropAt core n
-drop_at core n r e =
-    let l = living core n _ r.numbered.nodes e in
-    let a = tested (is_taken (core.receiver n).phase) _ _ l.rest in
-    let b = tested (core.receiver n).gone _ _ a.1 in
-    record {
-      node = l.node;
-      drops = both (is_taken (core.receiver n).phase) (core.receiver n).gone _ _ a.0 b.0;
-    }
-
 -- Paths, and the superblocks of a joining node.
-
-pub cut_at : (core : Core) (n l : ℕ) → Rounded core → refusal core (events.Cut n l) ≡ None → PathAt core n l
-cut_at core n l r e =
-    let a = first_none (no_node core n) _ e in
-    let b = tested (nat_lt l core.array.sizes.legs) _ [] a.1 in
-    record { node = a_node core n r.numbered.nodes a.0; leg = leg_is _ _ b.0 }
-
-pub mend_at : (core : Core) (n l : ℕ) → Rounded core → refusal core (events.Mend n l) ≡ None → PathAt core n l
-mend_at core n l r e = cut_at core n l r e
 
 pub load_at : (core : Core) (n l : ℕ) → Rounded core → refusal core (events.Load n l) ≡ None → PathAt core n l
 load_at core n l r e =
@@ -258,5 +192,21 @@ load_at core n l r e =
     let b = tested (nat_lt l core.array.sizes.legs) _ _ v.rest in
     record { node = v.node; leg = leg_is _ _ b.0 }
 
-pub up_at : (core : Core) (n : ℕ) → Rounded core → refusal core (events.Up n) ≡ None → n < 16
-up_at core n r e = (living core n _ r.numbered.nodes e).node
+-- The superblock of a leg.
+pub record LoadAt (core : Core) (n l : ℕ) (lengths : List ℕ) : Type 0 where
+  pub node : n < 16
+  pub leg : l < 8
+  pub there : l < length lengths
+  pub within : 8 < get_or lengths l 0
+
+pub loads_at : (core : Core) (n l : ℕ) (lengths : List ℕ) → Ready core → refusal core (events.Load n l) ≡ None → Fits (sizes core) lengths
+    → LoadAt core n l lengths
+loads_at core n l lengths r e f =
+    let p = load_at core n l r.rounded e in
+    let on = r.on_legs (events.Load n l) (reads_from n l 8) e refl in
+    record {
+      node = p.node;
+      leg = omega (arith, p.leg, r.range.legs.sizes_fit.legs.1);
+      there = omega (arith, p.leg, f.count);
+      within = omega (arith, f.each l p.leg, on.place);
+    }

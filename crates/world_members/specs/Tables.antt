@@ -6,8 +6,8 @@ use Rattle.msg_rounds.specs.declared.phases.SenderPhase.{SenderPhase}
 use Rattle.msg_rounds.specs.declared.phases.SenderPhase.TheVariants.{Idle}
 use Rattle.suspend_ranges.specs.Suspended.{ranges_of}
 use Rattle.cluster_model.specs.State.{Tried}
-use Rattle.world_members.specs.Tries.{tries_of}
 use Rattle.world_state.specs.declared.attempt.Attempt.{Attempt}
+use Rattle.world_members.specs.Tries.{tries_of}
 
 abbrev pub senders_of : List SenderPhase → ℕ → SenderPhase
 senders_of senders n = get_or senders n Idle

@@ -10,21 +10,26 @@ ghost use Rattle.leg_failure.specs.Views.{view_of};
 ghost use Rattle.msg_rounds.specs.Holds.{SenderHolds, ReceiverHolds, MayTake, MayResume};
 ghost use Rattle.msg_rounds.specs.Locks.{message_res, ack_res};
 ghost use Rattle.msg_rounds.specs.Phases.{is_idle, has_published};
-ghost use Rattle.msg_rounds.specs.Refusals.{is_sender_idle, take_refusal, processed_refusal, resume_refusal, drop_refusal};
+ghost use Rattle.msg_rounds.specs.Refusals.{is_sender_idle, take_refusal, processed_refusal};
+ghost use Rattle.msg_rounds.specs.Refusals.{resume_refusal, drop_refusal};
 ghost use Rattle.node_member.specs.Members.{join_refusal, die_refusal};
-ghost use Rattle.suspend_ranges.specs.Suspended.{ranges_of};
 ghost use Rattle.cluster_model.specs.Changes.{no_new_dev};
 ghost use Rattle.cluster_model.specs.Receiving.{resume_outcome};
-ghost use Rattle.world_members.specs.Changes.{heads_home, tries_over, member_joined, member_left, member_died, slot_taken, token_awaited, locks_entered, locks_left, locks_lost, device_kept, device_left, suspends_at, range_taken, range_dropped, receivers_told, requests_ended, message_read, round_awaited, round_over, round_dropped, view_known, addition_over};
-ghost use Rattle.world_state.specs.Kept.{core_of};
+ghost use Rattle.world_members.specs.Changes.{heads_home, member_joined, member_left, member_died};
+ghost use Rattle.world_members.specs.Changes.{slot_taken, token_awaited, locks_entered, locks_left};
+ghost use Rattle.world_members.specs.Changes.{locks_lost, device_kept, device_left, range_taken};
+ghost use Rattle.world_members.specs.Changes.{range_dropped, receivers_told, requests_ended};
+ghost use Rattle.world_members.specs.Changes.{message_read, round_awaited, round_over};
+ghost use Rattle.world_members.specs.Changes.{round_dropped, view_known, addition_over};
+ghost use Rattle.cluster_model.specs.Joining.{loaded};
+ghost use Rattle.world_state.specs.Kept.{core_of, tried_of};
 
 use crate::tables;
 use disk_addition::Addition;
 use dlm_modes::{Block, Mode};
-use mdc_types::{NodeId, Outcome, Range, Res};
+use mdc_types::{LegId, NodeId, Outcome, Range, Res};
 use msg_rounds::{ReceiverPhase, SenderPhase, Verdict};
-use suspend_ranges::SuspendList;
-use world_state::CoreState;
+use world_state::{Attempt, CoreState};
 
 // Nodes.
 
@@ -35,11 +40,13 @@ pub fn reset_heads(core: &mut CoreState, n: NodeId)
     tables::go_home(&mut core.heads, n);
 }
 
-pub fn reset_tries(core: &mut CoreState, n: NodeId)
-    requires { n < 16 }
-    ensures { core_of core.new ≡ tries_over (core_of core.old) n }
+// What the node has of the leg's superblock.
+pub fn set_try(core: &mut CoreState, n: NodeId, l: LegId, attempt: Attempt)
+    requires node { n < 16 }
+    requires leg { l < 8 }
+    ensures { core_of core.new ≡ loaded (core_of core.old) n l (tried_of attempt) }
 {
-    tables::forget_tries(&mut core.tried, n);
+    tables::put_try(&mut core.tried, n, l, attempt);
 }
 
 pub fn join_members(core: &mut CoreState, n: NodeId)
@@ -140,13 +147,6 @@ pub fn leave_device(core: &mut CoreState, n: NodeId)
 }
 
 // What is suspended.
-
-pub fn set_suspended(core: &mut CoreState, n: NodeId, ranges: SuspendList)
-    requires { n < 16 }
-    ensures { core_of core.new ≡ suspends_at (core_of core.old) n (ranges_of ranges) }
-{
-    tables::set_ranges(&mut core.suspended, n, ranges);
-}
 
 pub fn suspend(core: &mut CoreState, n: NodeId, owner: NodeId, r: Range)
     requires node { n < 16 }

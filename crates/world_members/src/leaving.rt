@@ -2,7 +2,7 @@ ghost use Rattle.std.specs.Prelude.{◌≡◌, ◌<◌, None};
 ghost use Rattle.mdc_types.specs.Bits.{has_bit};
 ghost use Rattle.mdc_types.specs.Geometry.{nodes_of};
 ghost use Rattle.leg_failure.specs.Views.{is_target};
-ghost use Rattle.msg_rounds.specs.Phases.{is_idle, has_published};
+ghost use Rattle.msg_rounds.specs.Phases.{has_published};
 ghost use Rattle.msg_rounds.specs.Refusals.{is_sender_idle};
 ghost use Rattle.node_bitmaps.specs.Bitmap.{first_set, old_target};
 ghost use Rattle.cluster_model.specs.After.{after};
@@ -15,9 +15,10 @@ ghost use Rattle.world_members.specs.Changes.{receivers_told, range_dropped};
 ghost use Rattle.world_state.specs.Kept.{Judges, core_of};
 ghost use Rattle.world_state.specs.Ready.{Ready};
 
-use crate::{changes, stub, tables};
+use crate::receiving::receives_nothing;
+use crate::{changes, tables};
 use mdc_types::{Event, LegId, NodeId, Outcome, Part, Refusal, Word};
-use msg_rounds::{ReceiverPhase, SenderPhase};
+use msg_rounds::SenderPhase;
 use world_state::{CoreState, check};
 
 fn sends_nothing(core: &CoreState, n: NodeId) -> bool
@@ -25,13 +26,6 @@ fn sends_nothing(core: &CoreState, n: NodeId) -> bool
     ensures { result ≡ is_sender_idle ((core_of core.now).sender n) }
 {
     matches!(core.sender(n).sender_phase(), SenderPhase::Idle)
-}
-
-fn receives_nothing(core: &CoreState, n: NodeId) -> bool
-    requires { n < nodes_of core.now.identity.geometry }
-    ensures { result ≡ is_idle ((core_of core.now).receiver n).phase }
-{
-    matches!(core.receiver(n).receiver_phase(), ReceiverPhase::Idle)
 }
 
 fn is_none(word: Word) -> bool
@@ -130,7 +124,7 @@ pub fn leave(core: &mut CoreState, n: NodeId) -> Outcome
     ensures after { core_of core.new ≡ after (core_of core.old) (Event.Leave n) result }
 {
     changes::leave_members(core, n);
-    stub::node_out(core, n);
+    core.node_out(n);
     changes::leave_locks(core, n);
     Outcome::Done
 }
@@ -179,7 +173,7 @@ pub fn die(core: &mut CoreState, n: NodeId) -> Outcome
     changes::fence(core, n);
     tell_death(core, n);
     core.sender_idle(n);
-    stub::node_out(core, n);
+    core.node_out(n);
     drop_range(core, n);
     changes::lose_locks(core, n);
     changes::end_requests(core, n);

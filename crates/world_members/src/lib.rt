@@ -9,10 +9,9 @@ mod paths;
 mod processing;
 mod ranges;
 mod receiving;
-mod stub;
 mod tables;
 
-pub use joining::{join, may_join, may_up, up};
+pub use joining::{join, load, may_join, may_load, may_up, up};
 pub use leaving::{die, leave, may_die, may_leave};
 pub use paths::{cut, may_cut, may_mend, mend};
 pub use processing::{may_processed, processed};

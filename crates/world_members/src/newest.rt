@@ -7,7 +7,8 @@ ghost use Rattle.mdc_types.specs.Bits.{has_bit};
 ghost use Rattle.mdc_types.specs.Roles.{role_of, is_working, is_written};
 ghost use Rattle.leg_failure.specs.Views.{view_of};
 ghost use Rattle.md_superblock.specs.Arrays.{said};
-ghost use Rattle.cluster_model.specs.Joining.{is_untried, says_of, events_of, greatest, is_newest, newest, was_read, missing_leg, view_from};
+ghost use Rattle.cluster_model.specs.Joining.{is_untried, says_of, events_of, greatest, is_newest};
+ghost use Rattle.cluster_model.specs.Joining.{newest, was_read, missing_leg, view_from};
 ghost use Rattle.world_state.specs.Kept.{tried_of};
 ghost use Rattle.world_members.specs.Tries.{tries_of, is_lost_leg};
 

@@ -4,35 +4,29 @@ ghost use Rattle.dlm_modes.specs.declared.mode.Mode.TheVariants.{CR};
 ghost use Rattle.dlm_space.specs.Locks.{ask_now_refusal};
 ghost use Rattle.mdc_types.specs.Geometry.{nodes_of};
 ghost use Rattle.mdc_types.specs.Roles.{role_of};
-ghost use Rattle.msg_rounds.specs.Refusals.{is_taken};
 ghost use Rattle.cluster_msgs.specs.Messages.{IsBody, IsInRange};
 ghost use Rattle.leg_failure.specs.Views.{view_of, taken};
 ghost use Rattle.cluster_model.specs.After.{after};
 ghost use Rattle.cluster_model.specs.Changes.{no_new_dev};
 ghost use Rattle.cluster_model.specs.Outcomes.{outcome_of};
-ghost use Rattle.cluster_model.specs.Processing.{draining_by, take_roles, see_device, do_body, do_message};
+ghost use Rattle.cluster_model.specs.Processing.{draining_by, take_roles, see_device, do_body};
+ghost use Rattle.cluster_model.specs.Processing.{do_message};
 ghost use Rattle.cluster_model.specs.Table.{refusal};
 ghost use Rattle.world_state.specs.Kept.{Judges, core_of};
 ghost use Rattle.world_state.specs.Ready.{Ready};
 
-use crate::{changes, stub};
+use crate::changes;
+use crate::receiving::has_taken;
 use cluster_msgs::Body;
 use leg_failure::View;
 use mdc_types::{Event, LegId, NodeId, Outcome, Refusal, Roles};
-use msg_rounds::ReceiverPhase;
 use world_state::{CoreState, check};
-
-fn has_taken(core: &CoreState, n: NodeId) -> bool
-    requires { n < nodes_of core.now.identity.geometry }
-    ensures { result ≡ is_taken ((core_of core.now).receiver n).phase }
-{
-    matches!(core.receiver(n).receiver_phase(), ReceiverPhase::Taken)
-}
 
 // No live write of the node is in a range that the message suspends.
 fn check_drained(core: &CoreState, n: NodeId) -> Result<(), Refusal>
     requires { n < nodes_of core.now.identity.geometry }
-    ensures { Judges result (first_of (draining_by (core_of core.now) n ((core_of core.now).heard n))) }
+    ensures { Judges result
+        (first_of (draining_by (core_of core.now) n ((core_of core.now).heard n))) }
 {
     if let Some(m) = &core.heard[n as usize]
         && let Body::Resyncing(r) = m.body
@@ -75,7 +69,7 @@ fn take_roles(core: &mut CoreState, n: NodeId, roles: &Roles, size: u32)
 {
     let view = view_taken(core, n, roles, size);
     changes::keep_device(core, n);
-    stub::set_view(core, n, &view);
+    core.set_view(n, view);
     changes::end_addition(core, n);
 }
 

@@ -20,7 +20,8 @@ use mdc_types::{Event, NodeId, Outcome, Refusal, Res};
 use msg_rounds::ReceiverPhase;
 use world_state::{CoreState, check};
 
-fn receives_nothing(core: &CoreState, n: NodeId) -> bool
+/// The node's receiver is idle.
+pub fn receives_nothing(core: &CoreState, n: NodeId) -> bool
     requires { n < nodes_of core.now.identity.geometry }
     ensures { result ≡ is_idle ((core_of core.now).receiver n).phase }
 {
@@ -143,7 +144,8 @@ pub fn resume(core: &mut CoreState, n: NodeId) -> Outcome
     outcome
 }
 
-fn has_taken(core: &CoreState, n: NodeId) -> bool
+/// The node's receiver has taken a message, and hasn't processed it.
+pub fn has_taken(core: &CoreState, n: NodeId) -> bool
     requires { n < nodes_of core.now.identity.geometry }
     ensures { result ≡ is_taken ((core_of core.now).receiver n).phase }
 {

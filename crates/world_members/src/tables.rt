@@ -1,23 +1,27 @@
 // Changes of the tables by node.
 
-ghost use Rattle.std.specs.Prelude.{◌≡◌, ◌<◌, ◌==◌, ◌&&◌, [], None, Some, if◌then◌else◌};
+ghost use Rattle.std.specs.Prelude.{◌≡◌, ◌<◌, ◌==◌, ◌&&◌, length, slice_set, [], None, Some};
+ghost use Rattle.std.specs.Prelude.{if◌then◌else◌};
 ghost use Rattle.dlm_modes.specs.declared.mode.Mode.TheVariants.{CR};
 ghost use Rattle.mdc_types.specs.Resources.{IsResource, number_of};
 ghost use Rattle.dlm_modes.specs.Points.{with_at};
 ghost use Rattle.dlm_space.specs.Locks.{ask_now_refusal, caller, holding, let_go};
 ghost use Rattle.dlm_space.specs.Parts.{locks_of};
 ghost use Rattle.msg_rounds.specs.Holds.{SenderHolds, ReceiverHolds, MayTake, MayResume};
-ghost use Rattle.msg_rounds.specs.Locks.{message_res, ack_res, token_asked, message_taken, message_processed, resumed, message_dropped};
+ghost use Rattle.msg_rounds.specs.Locks.{message_res, ack_res, token_asked, message_taken};
+ghost use Rattle.msg_rounds.specs.Locks.{message_processed, resumed, message_dropped};
 ghost use Rattle.msg_rounds.specs.Phases.{new_receiving, taken, now_in, heard_death};
-ghost use Rattle.msg_rounds.specs.Refusals.{take_refusal, processed_refusal, resume_refusal, drop_refusal};
-ghost use Rattle.suspend_ranges.specs.Suspended.{ranges_of, entry_of};
-ghost use Rattle.cluster_model.specs.State as machine;
+ghost use Rattle.msg_rounds.specs.Refusals.{take_refusal, processed_refusal, resume_refusal};
+ghost use Rattle.msg_rounds.specs.Refusals.{drop_refusal};
+ghost use Rattle.suspend_ranges.specs.Suspended.{entry_of};
 ghost use Rattle.cluster_model.specs.Changes.{no_new_dev};
-ghost use Rattle.world_members.specs.Tables.{senders_of, receivers_of, heads_of, all_tries, suspended_of};
+ghost use Rattle.world_state.specs.Kept.{tried_of};
+ghost use Rattle.world_members.specs.Tables.{senders_of, receivers_of, heads_of, all_tries};
+ghost use Rattle.world_members.specs.Tables.{suspended_of};
 
 use dlm_modes::{Block, Mode};
 use dlm_space::Space;
-use mdc_types::{NodeId, Range, Res};
+use mdc_types::{LegId, NodeId, Range, Res};
 use msg_rounds::{Receiver, ReceiverPhase, Sender, SenderPhase, Verdict};
 use suspend_ranges::SuspendList;
 use world_state::Attempt;
@@ -30,28 +34,34 @@ pub fn go_home(heads: &mut [[u32; 8]; 16], n: NodeId)
     heads[n as usize] = [0; 8];
 }
 
-/// The node has tried no leg.
-pub fn forget_tries(tried: &mut [[Attempt; 8]; 16], n: NodeId)
-    requires { n < 16 }
-    ensures { all_tries tried.new ≡ with_at (all_tries tried.old) n (λ l. machine.Untried) }
+fn put_attempt(tried: &mut [Attempt; 8], l: LegId, attempt: Attempt)
+    requires { l < 8 }
+    ensures tried { tried.new ≡ slice_set tried.old l attempt }
+    ensures legs { length tried.old ≡ 8 }
 {
-    tried[n as usize] = [Attempt::Untried; 8];
+    tried[l as usize] = attempt;
 }
 
-/// These ranges are suspended at the node.
-pub fn set_ranges(lists: &mut [SuspendList; 16], n: NodeId, ranges: SuspendList)
-    requires { n < 16 }
-    ensures { suspended_of lists.new ≡ with_at (suspended_of lists.old) n (ranges_of ranges) }
+/// What the node has of the leg's superblock.
+pub fn put_try(tried: &mut Vec<[Attempt; 8]>, n: NodeId, l: LegId, attempt: Attempt)
+    requires node { n < length tried.old.items }
+    requires leg { l < 8 }
+    ensures tries { all_tries tried.new.items ≡ (λ m k. if (m == n) && (k == l)
+        then tried_of attempt else all_tries tried.old.items m k) }
+    ensures size { length tried.new.items ≡ length tried.old.items }
 {
-    lists[n as usize] = ranges;
+    let attempts = &mut tried[n as usize];
+    put_attempt(attempts, l, attempt);
 }
 
 /// The owner's range is suspended at the node.
 pub fn put_range(lists: &mut [SuspendList; 16], n: NodeId, o: NodeId, r: Range)
     requires node { n < 16 }
     requires owner { o < 16 }
-    ensures { suspended_of lists.new
-        ≡ (λ m owner. if (m == n) && (owner == o) then entry_of r else suspended_of lists.old m owner) }
+    ensures ranges { suspended_of lists.new
+        ≡ (λ m owner. if (m == n) && (owner == o) then entry_of r
+        else suspended_of lists.old m owner) }
+    ensures size { length lists.new ≡ 16 }
 {
     lists[n as usize].put(o, r);
 }
@@ -67,8 +77,10 @@ pub fn ask_token(
     requires holds { SenderHolds (locks_of space.old) n (senders_of senders.old n) }
     requires sender { senders_of senders.old n ≡ SenderPhase.Idle }
     requires receiver { (receivers_of receivers.now n).phase ≡ ReceiverPhase.Idle }
-    ensures sender { senders_of senders.new ≡ with_at (senders_of senders.old) n SenderPhase.TokenAsked }
+    ensures sender { senders_of senders.new
+        ≡ with_at (senders_of senders.old) n SenderPhase.TokenAsked }
     ensures locks { locks_of space.new ≡ token_asked (locks_of space.old) n }
+    ensures size { length senders.new ≡ 16 }
 {
     let receiver = &receivers[n as usize];
     match senders[n as usize].ask_token(space, n, receiver) {
@@ -84,8 +96,10 @@ pub fn take(receivers: &mut [Receiver; 16], space: &mut Space, n: NodeId) -> (Bl
     requires holds { MayTake (locks_of space.old) n }
     ensures block { result.0 ≡ (locks_of space.old message_res).block }
     ensures sender { Some result.1 ≡ caller (locks_of space.old ack_res) n }
-    ensures receiver { receivers_of receivers.new ≡ with_at (receivers_of receivers.old) n (taken result.1) }
+    ensures receiver { receivers_of receivers.new
+        ≡ with_at (receivers_of receivers.old) n (taken result.1) }
     ensures locks { locks_of space.new ≡ message_taken (locks_of space.old) n }
+    ensures size { length receivers.new ≡ 16 }
 {
     match receivers[n as usize].take(space, n) {
         Ok(read) => read,
@@ -99,8 +113,10 @@ pub fn process(receivers: &mut [Receiver; 16], space: &mut Space, n: NodeId)
     requires may { processed_refusal (receivers_of receivers.old n) ≡ None }
     requires holds { ReceiverHolds (locks_of space.old) n (receivers_of receivers.old n).phase }
     ensures receiver { receivers_of receivers.new
-        ≡ with_at (receivers_of receivers.old) n (now_in ReceiverPhase.Waiting (receivers_of receivers.old n)) }
+        ≡ with_at (receivers_of receivers.old) n
+        (now_in ReceiverPhase.Waiting (receivers_of receivers.old n)) }
     ensures locks { locks_of space.new ≡ message_processed (locks_of space.old) n }
+    ensures size { length receivers.new ≡ 16 }
 {
     match receivers[n as usize].processed(space, n) {
         Ok(()) => {}
@@ -117,8 +133,10 @@ pub fn resume(receivers: &mut [Receiver; 16], space: &mut Space, n: NodeId) -> V
     ensures verdict { result
         ≡ (if (receivers_of receivers.old n).gone then Verdict.Broken else Verdict.Whole) }
     ensures receiver { receivers_of receivers.new
-        ≡ with_at (receivers_of receivers.old) n (now_in ReceiverPhase.Idle (receivers_of receivers.old n)) }
+        ≡ with_at (receivers_of receivers.old) n
+        (now_in ReceiverPhase.Idle (receivers_of receivers.old n)) }
     ensures locks { locks_of space.new ≡ resumed (locks_of space.old) n }
+    ensures size { length receivers.new ≡ 16 }
 {
     match receivers[n as usize].resume(space, n) {
         Ok(verdict) => verdict,
@@ -132,8 +150,10 @@ pub fn drop_message(receivers: &mut [Receiver; 16], space: &mut Space, n: NodeId
     requires may { drop_refusal (receivers_of receivers.old n) ≡ None }
     requires holds { ReceiverHolds (locks_of space.old) n (receivers_of receivers.old n).phase }
     ensures receiver { receivers_of receivers.new
-        ≡ with_at (receivers_of receivers.old) n (now_in ReceiverPhase.Idle (receivers_of receivers.old n)) }
+        ≡ with_at (receivers_of receivers.old) n
+        (now_in ReceiverPhase.Idle (receivers_of receivers.old n)) }
     ensures locks { locks_of space.new ≡ message_dropped (locks_of space.old) n }
+    ensures size { length receivers.new ≡ 16 }
 {
     match receivers[n as usize].drop_message(space, n) {
         Ok(()) => {}
@@ -146,6 +166,7 @@ fn tell_all(receivers: &mut [Receiver; 16], space: &mut Space, n: NodeId)
     ensures receivers { receivers_of receivers.new
         ≡ (λ m. heard_death n (receivers_of receivers.old m)) }
     ensures space { space.new ≡ space.old }
+    ensures size { length receivers.new ≡ 16 }
 {
     for receiver in receivers.iter_mut() {
         receiver.sender_died(space, n);
@@ -157,6 +178,7 @@ fn tell_if(receivers: &mut [Receiver; 16], space: &mut Space, n: NodeId, publish
     ensures receivers { receivers_of receivers.new ≡ (λ m. if published
         then heard_death n (receivers_of receivers.old m) else receivers_of receivers.old m) }
     ensures space { space.new ≡ space.old }
+    ensures size { length receivers.new ≡ 16 }
 {
     if published {
         tell_all(receivers, space, n)
@@ -170,6 +192,7 @@ pub fn tell_death(receivers: &mut [Receiver; 16], space: &mut Space, n: NodeId, 
         else if published then heard_death n (receivers_of receivers.old m)
         else receivers_of receivers.old m) }
     ensures space { space.new ≡ space.old }
+    ensures size { length receivers.new ≡ 16 }
 {
     tell_if(receivers, space, n, published);
     receivers[n as usize] = Receiver::new();
@@ -178,8 +201,9 @@ pub fn tell_death(receivers: &mut [Receiver; 16], space: &mut Space, n: NodeId, 
 /// The owner's range is suspended nowhere any more.
 pub fn drop_owner(lists: &mut [SuspendList; 16], o: NodeId)
     requires { o < 16 }
-    ensures { suspended_of lists.new
+    ensures ranges { suspended_of lists.new
         ≡ (λ m owner. if owner == o then None else suspended_of lists.old m owner) }
+    ensures size { length lists.new ≡ 16 }
 {
     for list in lists.iter_mut() {
         list.drop_owner(o);

@@ -4,4 +4,5 @@
 mod opened;
 mod opening;
 
+pub use opened::open_state;
 pub use opening::Opening;

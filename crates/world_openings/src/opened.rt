@@ -1,6 +1,7 @@
-ghost use Rattle.std.specs.Prelude.{◌≡◌, ◌<◌, ◌≤◌, ◌&&◌, ℕ, false, nat_lt, IfOk};
+ghost use Rattle.std.specs.Prelude.{◌≡◌, ◌<◌, ◌≤◌, ◌+◌, ◌&&◌, ℕ, true, false, nat_lt, None, IfOk};
 ghost use Rattle.dlm_modes.specs.Points.{with_at};
-ghost use Rattle.mdc_types.specs.Roles.{role_of};
+ghost use Rattle.mdc_types.specs.Geometry.{nodes_of};
+ghost use Rattle.mdc_types.specs.Resources.{IsResource, number_of};
 ghost use Rattle.dlm_space.specs.Locks.{holding, ask_now_refusal};
 ghost use Rattle.leg_failure.specs.Views.{new_view};
 ghost use Rattle.node_bits.specs.Bitmaps.{opened};
@@ -10,23 +11,14 @@ ghost use Rattle.world_openings.specs.Members.{opened_with};
 
 use crate::Opening;
 use dlm_modes::Mode;
-use dlm_space::Space;
 use leg_failure::View;
-use leg_store::PathTable;
-use mdc_types::{NodeId, NodeState, Res, Role, Roles};
-use msg_rounds::{Receiver, Sender};
+use mdc_types::{NodeId, NodeState, Res};
 use node_bits::Bitmaps;
 use node_copies::{Additions, Copies, Recoveries};
 use node_member::Record;
 use node_requests::Requests;
 use std::alloc::{AllocError, Global};
-use std::array;
-use suspend_ranges::SuspendList;
 use world_state::{Attempt, CoreState};
-
-const SPARES: Roles = Roles {
-    legs: [Role::Spare; 8],
-};
 
 // Nobody is in.
 fn empty_state(alloc: Global, opening: &Opening) -> Result<CoreState, AllocError>
@@ -39,42 +31,62 @@ fn empty_state(alloc: Global, opening: &Opening) -> Result<CoreState, AllocError
     let copies = Copies::new(alloc, &geometry)?;
     let recoveries = Recoveries::new(alloc, &geometry)?;
     let additions = Additions::new(alloc, &geometry)?;
-    Ok(of_tables(
-        opening, requests, bitmaps, copies, recoveries, additions,
-    ))
-}
-
-// Nobody is in, over these tables.
-fn of_tables(
-    opening: &Opening,
-    requests: Requests,
-    bitmaps: Bitmaps,
-    copies: Copies,
-    recoveries: Recoveries,
-    additions: Additions,
-) -> CoreState
-{
-    let senders = array::from_fn(|_| Sender::new());
-    let receivers = array::from_fn(|_| Receiver::new());
-    let suspended = array::from_fn(|_| SuspendList::new());
-    CoreState {
-        identity: opening.identity(),
-        states: [NodeState::Out; 16],
-        views: [View::new(SPARES, 0); 16],
-        heads: [[0; 8]; 16],
+    let tried = vec![in alloc; [Attempt::Untried; 8]; 16]?;
+    let members = Record::new(opening.members(), opening.pending(), opening.events());
+    Ok(CoreState::empty(
+        opening.identity(),
+        members,
+        tried,
         requests,
-        space: Space::new(),
-        senders,
-        offers: [None; 16],
-        receivers,
-        heard: [None; 16],
-        tried: [[Attempt::Untried; 8]; 16],
-        members: Record::new(opening.members(), opening.pending(), opening.events()),
-        paths: PathTable::new(),
         bitmaps,
-        suspended,
         copies,
         recoveries,
         additions,
+    ))
+}
+
+// A lock that nobody holds in a way that disagrees is taken at once.
+fn take(core: &mut CoreState, n: NodeId, res: Res, mode: Mode)
+    requires node { n < 16 }
+    requires res { IsResource res }
+    requires free { ask_now_refusal ((core_of core.old).locks (number_of res)) n mode ≡ None }
+    ensures { core_of core.new ≡ record (core_of core.old) { locks = with_at (core_of core.old).locks (number_of res) (holding ((core_of core.old).locks (number_of res)) n mode) } }
+{
+    let _ = core.space.ask_now(n, res.number(), mode);
+}
+
+fn open_bits(core: &mut CoreState, n: NodeId, warm: bool)
+    requires { n < 16 }
+    ensures { core_of core.new ≡ record (core_of core.old) { bitmap = with_at (core_of core.old).bitmap n (opened core.old.identity.geometry warm) } }
+{
+    core.bitmaps.open_member(n, warm);
+}
+
+// The node comes in as a member.
+fn bring_in(core: &mut CoreState, opening: &Opening, n: NodeId)
+    requires node { n < nodes_of opening.now.sizes }
+    requires member { is_member opening.now n ≡ true }
+    requires others { core_of core.old ≡ opened_with opening.now (λ m. is_member opening.now m && nat_lt m n) }
+    ensures { core_of core.new ≡ opened_with opening.now (λ m. is_member opening.now m && nat_lt m (n + 1)) }
+{
+    core.set_state(n, NodeState::Up);
+    core.replace_view(n, View::new(opening.roles(), opening.geometry().sectors()));
+    take(core, n, Res::Bitmap(n), Mode::PW);
+    take(core, n, Res::Ack, Mode::CR);
+    take(core, n, Res::NoNewDev, Mode::CR);
+    open_bits(core, n, opening.warm());
+}
+
+/// The state at an opening: members are up and idle, with the opening's roles and size.
+pub fn open_state(alloc: Global, opening: &Opening) -> Result<CoreState, AllocError>
+    requires { IsOrigin opening.now }
+    ensures { IfOk result (λ core. core_of core ≡ core_at opening.now) }
+{
+    let mut core = empty_state(alloc, opening)?;
+    for n in 0..opening.geometry().nodes() {
+        if opening.is_member(n) {
+            bring_in(&mut core, opening, n);
+        }
     }
+    Ok(core)
 }

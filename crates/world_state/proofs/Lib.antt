@@ -3,5 +3,6 @@ pub mod SetLaws
 pub mod Points
 pub mod Setting
 mod LegLaws
+mod Emptied
 pub mod Carrying
 pub mod Changing

@@ -5,6 +5,7 @@
 mod attempt;
 mod changes;
 mod checks;
+mod empty;
 mod legs;
 mod offer;
 mod sets;

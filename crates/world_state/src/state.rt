@@ -33,7 +33,7 @@ pub struct CoreState {
     /// The message that a receiver took.
     pub heard: [Option<Msg>; 16],
     /// By joining node and leg.
-    pub tried: [[Attempt; 8]; 16],
+    pub tried: Vec<[Attempt; 8]>,
     pub members: Record,
     pub paths: PathTable,
     pub bitmaps: Bitmaps,
@@ -59,7 +59,7 @@ impl Model for CoreState {
       offers = c.offers;
       receivers = c.receivers;
       heard = c.heard;
-      tried = c.tried;
+      tried = c.tried.items;
       members = c.members;
       paths = c.paths;
       bitmaps = c.bitmaps;
@@ -80,7 +80,7 @@ impl Model for CoreState {
       offers = c.offers;
       receivers = c.receivers;
       heard = c.heard;
-      tried = c.tried;
+      tried = c.tried.items;
       members = c.members;
       paths = c.paths;
       bitmaps = c.bitmaps;

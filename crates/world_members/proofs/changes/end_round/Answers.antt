@@ -1,4 +1,4 @@
-use Rattle.std.proofs.Common.{◌≡◌, ap, subst}
+use Rattle.std.proofs.Common.{◌≡◌, subst}
 use Rattle.world_members.specs.Changes.{round_over}
 use Rattle.world_state.specs.contracts.state.CoreState.{the_view}
 use Rattle.world_state.specs.Kept.{Kept, core_of}
@@ -9,3 +9,16 @@ returns-clause-core c =
     let k = the_view c.core.inside in
     let P : Kept → Type 0 = λ q. core_of (record k { receivers = c.resume.new.receivers; space = c.resume.new.space }) ≡ round_over (core_of q) c.args.n in
     subst P c.core.view_is (λ i. record (core_of k) { receiver = c.resume.ensures.receiver i; locks = c.resume.ensures.locks i })
+
+pub invariant_of-core : goal.invariant_of-core
+invariant_of-core c = record {
+  bitmaps = c.core.invariant.bitmaps;
+  copies = c.core.invariant.copies;
+  recoveries = c.core.invariant.recoveries;
+  additions = c.core.invariant.additions;
+  views = c.core.invariant.views;
+  senders = c.core.invariant.senders;
+  receivers = c.resume.ensures.size;
+  suspended = c.core.invariant.suspended;
+  tried = c.core.invariant.tried;
+}

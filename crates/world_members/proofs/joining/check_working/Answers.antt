@@ -8,4 +8,4 @@ use Rattle.world_members.proofs.joining.check_working.Goals as goal
 pub returns-in-None : goal.returns-in-None
 returns-in-None c =
     let tried = (core_of c.args.core.now).tried c.args.n in
-    ap (refused_by Missing) (ap (missing_leg tried) (sym c.newest.ensures) ∙ sym c.in-None.ensures)
+    ap (refused_by Missing) (ap (missing_leg tried) (sym c.newest_state.ensures) ∙ sym c.in-None.ensures)

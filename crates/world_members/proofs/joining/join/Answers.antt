@@ -6,7 +6,7 @@ use Rattle.msg_rounds.specs.Holds.{SenderHolds}
 use Rattle.msg_rounds.specs.declared.phases.ReceiverPhase.TheVariants as receivers
 use Rattle.msg_rounds.specs.declared.phases.SenderPhase.TheVariants as senders
 use Rattle.cluster_model.specs.State.{Core}
-use Rattle.world_members.specs.Changes.{in_state, heads_home, member_joined, slot_taken, token_awaited}
+use Rattle.world_members.specs.Changes.{in_state, heads_home, slot_taken, token_awaited}
 use Rattle.world_state.specs.Kept.{core_of}
 use Rattle.world_members.proofs.Telling.{join_at, slot_still}
 use Rattle.world_members.proofs.joining.join.Goals as goal

@@ -8,13 +8,16 @@ use Rattle.world_state.specs.Kept.{core_of}
 use Rattle.world_members.proofs.Stepping.{up_steps}
 use Rattle.world_members.proofs.joining.up.Goals as goal
 
+pub enter_locks-requires-clause-ack : goal.enter_locks-requires-clause-ack
+enter_locks-requires-clause-ack c = c.requires.ready.unblocked.up c.args.n c.requires.accepted
+
 pub returns-clause-after : goal.returns-clause-after
 returns-clause-after c =
     let n = c.args.n in
     let v = view_of c.newest_view-view.result in
     let ranges = ranges_of c.members_ranges-ranges.result in
     c.set_state.ensures
-    ∙ ap (λ x. in_state x n Loaded) (c.reset_tries.ensures
+    ∙ ap (λ x. in_state x n Loaded) (c.forget_tries.ensures
     ∙ ap (λ x. tries_over x n) (c.set_suspended.ensures
     ∙ ap (λ x. suspends_at x n ranges) (c.set_view.ensures
     ∙ ap (λ x. with_view x n v) c.enter_locks.ensures)))

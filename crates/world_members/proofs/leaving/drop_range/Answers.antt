@@ -8,4 +8,17 @@ pub returns : goal.returns
 returns c =
     let k = the_view c.core.inside in
     let P : Kept → Type 0 = λ q. core_of (record k { suspended = c.drop_owner.new.lists }) ≡ range_dropped (core_of q) c.args.n in
-    subst P c.core.view_is (ap (λ f. record (core_of k) { suspended = f }) c.drop_owner.ensures)
+    subst P c.core.view_is (ap (λ f. record (core_of k) { suspended = f }) c.drop_owner.ensures.ranges)
+
+pub invariant_of-core : goal.invariant_of-core
+invariant_of-core c = record {
+  bitmaps = c.core.invariant.bitmaps;
+  copies = c.core.invariant.copies;
+  recoveries = c.core.invariant.recoveries;
+  additions = c.core.invariant.additions;
+  views = c.core.invariant.views;
+  senders = c.core.invariant.senders;
+  receivers = c.core.invariant.receivers;
+  suspended = c.drop_owner.ensures.size;
+  tried = c.core.invariant.tried;
+}

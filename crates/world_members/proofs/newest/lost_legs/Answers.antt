@@ -1,4 +1,4 @@
-use Rattle.std.proofs.Common.{sym, ◌∙◌, arith}
+use Rattle.std.proofs.Common.{sym, ◌∙◌}
 use Rattle.leg_failure.proofs.SetLaws.{scan_more, scan_same}
 use Rattle.world_members.specs.Tries.{tries_of, is_lost_leg}
 use Rattle.world_members.proofs.newest.lost_legs.Goals as goal

@@ -1,4 +1,3 @@
-use Rattle.std.proofs.Common.{arith}
 use Rattle.suspend_ranges.specs.Suspended.{ranges_of}
 use Rattle.cluster_model.specs.Joining.{range_of_member}
 use Rattle.world_state.specs.Kept.{core_of}

@@ -2,7 +2,12 @@ use Rattle.std.proofs.Common.{None, ap, ◌∙◌}
 use Rattle.world_members.specs.Changes.{hears, view_resumed_if}
 use Rattle.world_state.specs.Kept.{core_of}
 use Rattle.world_members.proofs.Stepping.{resume_steps, resume_after}
+use Rattle.world_members.proofs.Telling.{resume_at}
 use Rattle.world_members.proofs.receiving.resume.Goals as goal
+
+pub end_round-outcome-requires-clause-may : goal.end_round-outcome-requires-clause-may
+end_round-outcome-requires-clause-may c =
+    (resume_at (core_of c.args.core.now) c.args.n c.requires.ready.rounded c.requires.accepted).resumes
 
 pub end_round-outcome-requires-clause-holds : goal.end_round-outcome-requires-clause-holds
 end_round-outcome-requires-clause-holds c = (c.requires.ready.rounded.phased.holds c.args.n).receiver

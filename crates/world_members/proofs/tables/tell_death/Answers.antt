@@ -1,4 +1,4 @@
-use Rattle.std.proofs.Common.{◌≡◌, ap, ◌∙◌, arith}
+use Rattle.std.proofs.Common.{ap, ◌∙◌, arith}
 use Rattle.dlm_modes.specs.Points.{with_at}
 use Rattle.msg_rounds.specs.Phases.{new_receiving}
 use Rattle.world_members.specs.Tables.{receivers_of}

@@ -1,8 +1,0 @@
-mod Flying
-mod Seeing
-mod Having
-mod Working
-mod Beginning
-pub mod Places
-pub mod Runs
-mod Examples

@@ -1,5 +1,0 @@
-pub mod State
-pub mod Table
-pub mod Effects
-pub mod Run
-pub mod Opening

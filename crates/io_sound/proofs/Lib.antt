@@ -1,4 +1,0 @@
-pub mod Legs
-pub mod Ways
-pub mod Steps
-pub mod Runs

@@ -1,0 +1,9 @@
+pub mod ViewLaws
+pub mod TableLaws
+pub mod Steps
+pub mod Links
+pub mod Kept
+pub mod Wires
+pub mod RunsKept
+pub mod Made
+pub mod Tickets

@@ -1,0 +1,6 @@
+pub mod Runs
+pub mod Views
+pub mod Invariants
+pub mod Tickets
+pub mod Made
+pub mod Sound

@@ -1,0 +1,6 @@
+//! Theorems on a lock space spread over nodes, over every list of its calls.
+#![tactic(auto)]
+
+mod laws;
+
+pub use laws::wires_are_sound;

@@ -1,0 +1,5 @@
+pub mod Lists
+pub mod LinkLaws
+pub mod Changed
+pub mod Wires
+pub mod Reports

@@ -1,0 +1,4 @@
+pub mod Locals
+pub mod Packets
+pub mod Machine
+pub mod Parts

@@ -1,0 +1,4 @@
+pub mod Judging
+pub mod Changing
+pub mod Telling
+pub mod Transferring

@@ -1,0 +1,5 @@
+pub mod Guarding
+pub mod Looking
+pub mod Changing
+pub mod Accepting
+pub mod Reaching

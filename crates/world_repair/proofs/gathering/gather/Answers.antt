@@ -1,0 +1,31 @@
+use Rattle.std.proofs.Common.{refl, ap}
+use Rattle.mdc_types.specs.declared.events.Event.TheVariants.{Gather}
+use Rattle.cluster_model.specs.Transfers.{Transfer, reads_from}
+use Rattle.world_state.specs.Kept.{core_of}
+use Rattle.world_state.specs.Told.{has_failed}
+use Rattle.world_state.proofs.Carrying.{got, not_got}
+use Rattle.world_repair.proofs.Reaching.{reach, there_is, as_got, fallen}
+use Rattle.world_repair.proofs.gathering.gather.Goals as goal
+
+pub receive-requires-clause-leg : goal.receive-requires-clause-leg
+receive-requires-clause-leg g c = (reach (core_of c.args.core.now) (Gather c.args.n) (reads_from c.args.n c.due_place-l.result.0 c.due_place-l.result.1) _ c.requires.ready c.requires.accepted c.due_place-l.ensures c.requires.fits).leg
+
+pub receive-requires-clause-there : goal.receive-requires-clause-there
+receive-requires-clause-there g c = there_is g.L.LegDev.size c.args.legs.now.items c.due_place-l.result.0 c.due_place-l.result.1 (reach (core_of c.args.core.now) (Gather c.args.n) (reads_from c.args.n c.due_place-l.result.0 c.due_place-l.result.1) _ c.requires.ready c.requires.accepted c.due_place-l.ensures c.requires.fits)
+
+pub receive-requires-clause-within : goal.receive-requires-clause-within
+receive-requires-clause-within g c = (reach (core_of c.args.core.now) (Gather c.args.n) (reads_from c.args.n c.due_place-l.result.0 c.due_place-l.result.1) _ c.requires.ready c.requires.accepted c.due_place-l.ensures c.requires.fits).within
+
+pub fail-requires-clause-leg : goal.fail-requires-clause-leg
+fail-requires-clause-leg g c = (reach (core_of c.args.core.now) (Gather c.args.n) (reads_from c.args.n c.due_place-l.result.0 c.due_place-l.result.1) _ c.requires.ready c.requires.accepted c.due_place-l.ensures c.requires.fits).leg
+
+pub returns-in-Ok : goal.returns-in-Ok
+returns-in-Ok g c =
+    let t : Transfer = reads_from c.args.n c.due_place-l.result.0 c.due_place-l.result.1 in
+    record { carried = got _ _ _ _ _ _ t c.requires.accepted c.due_place-l.ensures refl c.gathered.ensures.after c.in-Ok.page (as_got _ _ c.in-Ok.is c.receive.ensures) c.gathered.ensures.outcome (ap has_failed c.gathered.ensures.outcome) }
+
+pub returns-in-Err : goal.returns-in-Err
+returns-in-Err g c =
+    let t : Transfer = reads_from c.args.n c.due_place-l.result.0 c.due_place-l.result.1 in
+    let after = fallen (core_of c.args.core.now) (core_of c.args.core.now) (Gather c.args.n) t c.fail.result (core_of c.fail.new.core) c.due_place-l.ensures refl refl c.fail.ensures.outcome c.fail.ensures.core in
+    record { carried = not_got _ _ _ _ _ _ t c.requires.accepted c.due_place-l.ensures refl after c.in-Err.field-0 (as_got _ _ c.in-Err.is c.receive.ensures) c.fail.ensures.outcome }

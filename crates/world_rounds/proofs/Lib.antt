@@ -1,0 +1,5 @@
+mod Rounding
+mod Converting
+mod Granted
+mod Saying
+mod Publishes

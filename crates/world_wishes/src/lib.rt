@@ -1,0 +1,10 @@
+//! The rows of offers: what a round may be for, and the superblocks that it proposes.
+#![tactic(auto)]
+
+mod guards;
+mod offering;
+mod superblocks;
+mod wishes;
+
+pub use offering::{may_offer, offer};
+pub use superblocks::{may_write_super, write_super};
