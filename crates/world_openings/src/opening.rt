@@ -184,6 +184,13 @@ impl Opening {
         }
     }
 
+    /// The uuid of the array.
+    pub fn uuid(&self) -> [u8; 16]
+        ensures { result ≡ self.now.uuid }
+    {
+        self.uuid
+    }
+
     /// The nodes that are members, one bit each.
     pub fn members(&self) -> u16
         ensures { result ≡ self.now.members }
