@@ -12,7 +12,7 @@ use Rattle.cluster_model.specs.Run.{Run}
 use Rattle.laws_history.specs.Laws.{WorkingLegsTell}
 use Rattle.laws_history.proofs.Places.{runs_cut, legs_tell}
 use Rattle.laws_history.proofs.Runs.{runs_legal, runs_fresh}
-use Rattle.mdc.specs.World.{trace_limit}
+use Rattle.cluster_core.specs.World.{trace_limit}
 use Rattle.script_text.specs.declared.command.Command.{Command}
 use Rattle.script_text.specs.declared.command.Command.TheVariants as commands
 use Rattle.script_text.specs.declared.command.WordsEnd.{WordsEnd}

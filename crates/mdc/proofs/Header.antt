@@ -19,7 +19,7 @@ use Rattle.script_text.specs.Script.{ScriptValue}
 use Rattle.script_text.specs.declared.script.Start.{Start}
 use Rattle.script_text.specs.declared.script.FaultLine.{FaultLine}
 use Rattle.leg_store.specs.declared.memory.Left.{Left}
-use Rattle.mdc.specs.World.{Seen}
+use Rattle.cluster_core.specs.World.{Seen}
 use Rattle.mdc.specs.Opened.{left_by, stand, state_at, Starts, IsNewLeg, AreNewLegs, origin_of, sizes_of, faults_of, no_leg, AllTold, FailAsAsked}
 
 module _ (o : Origin) (faults : List FaultLine) (legs : List Memory)

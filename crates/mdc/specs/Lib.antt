@@ -5,4 +5,3 @@ pub mod LockAnswers
 pub mod Opened
 pub mod Playing
 pub mod QueryAnswers
-pub mod World

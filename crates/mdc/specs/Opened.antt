@@ -14,7 +14,7 @@ use Rattle.cluster_model.specs.Opening.{Origin, header_at}
 use Rattle.cluster_model.specs.Contents.{Opens, header_sector}
 use Rattle.world_state.specs.Kept.{Kept}
 use Rattle.world_state.specs.Told.{LegsSeen, state_with, plan_at}
-use Rattle.mdc.specs.World.{Seen}
+use Rattle.cluster_core.specs.World.{Seen}
 use Rattle.script_text.specs.declared.script.Start.{Start}
 use Rattle.script_text.specs.declared.script.FaultLine.{FaultLine}
 use Rattle.script_text.specs.Script.{ScriptValue}

@@ -13,7 +13,7 @@ use Rattle.cluster_model.specs.Run.{Run, entry}
 use Rattle.laws_history.specs.Laws.{AllOfRequests, NoServedLegIsStale}
 use Rattle.world_state.specs.Kept.{core_of}
 use Rattle.world_state.specs.Told.{Carries}
-use Rattle.mdc.specs.World.{trace_limit}
+use Rattle.cluster_core.specs.World.{trace_limit}
 use Rattle.script_text.specs.Outside.{WroteFront, IsDue}
 use Rattle.script_text.specs.Script.{ScriptValue}
 use Rattle.script_text.specs.declared.script.Start.{Start}

@@ -4,12 +4,12 @@ ghost use Rattle.cluster_model.specs.Opening.{IsOrigin};
 ghost use Rattle.script_text.specs.Header.{start_sizes, most_nodes};
 ghost use Rattle.mdc.specs.Opened.{stand, Starts, origin_of, sizes_of, faults_of, left_by, IsNewLeg, AreNewLegs};
 
-use crate::stub::World;
+use cluster_core::World;
 use leg_store::{Left, MemLeg};
 use mdc_types::{Geometry, LegId};
 use script_text::{FaultLine, Script, Start};
 use std::alloc::{AllocError, Global};
-use crate::stub::{Opening, header_leg};
+use world_openings::{Opening, header_leg};
 
 // What a write leaves that fails.
 fn left_by(new: bool) -> Left

@@ -1,10 +1,10 @@
 ghost use Rattle.std.specs.Prelude.{◌≡◌, length, IfOk, string_bytes};
 ghost use Rattle.plain_history.specs.History.{values_at};
 ghost use Rattle.laws_history.specs.Laws.{WorkingLegsTell};
-ghost use Rattle.mdc.specs.World.{state};
+ghost use Rattle.cluster_core.specs.World.{state};
 ghost use Rattle.mdc.specs.QueryAnswers.{Checks};
 
-use crate::stub::World;
+use cluster_core::World;
 use leg_store::LegDev;
 use plain_history::{Checked, check};
 use report_text::{bad_text, legal_text};

@@ -11,7 +11,8 @@ mod play;
 mod playing;
 mod queries;
 mod status;
-mod stub;
+#[cfg(test)]
+mod tests;
 
 use crate::play::play;
 use crate::status::Status;

@@ -2,7 +2,7 @@ ghost use Rattle.std.specs.Prelude.{◌≡◌, ◌≤◌, ◌++◌, ℕ, List, [
 ghost use Rattle.mdc_types.specs.Faults.{Rose, HasCause};
 ghost use Rattle.plain_history.specs.History.{values_at};
 ghost use Rattle.laws_history.specs.Laws.{WorkingLegsTell};
-ghost use Rattle.mdc.specs.World.{state, trace_limit};
+ghost use Rattle.cluster_core.specs.World.{state, trace_limit};
 ghost use Rattle.script_text.specs.Outside.{WroteFront, IsDue};
 ghost use Rattle.script_text.specs.declared.script.Line.TheVariants.{Event as event_line};
 ghost use Rattle.mdc.specs.Call.{printed};
@@ -13,7 +13,7 @@ use crate::checking::check_answer;
 use crate::queries::{
     map_answer, record_answer, refused_text, size_answer, slot_answer, view_answer,
 };
-use crate::stub::{StepEnd, World};
+use cluster_core::{StepEnd, World};
 use leg_store::LegDev;
 use mdc_types::{Event, Failed};
 use report_text::outcome_text;

@@ -2,7 +2,7 @@ ghost use Rattle.std.specs.Prelude.{◌≡◌, IfOk, string_bytes};
 ghost use Rattle.mdc.specs.QueryAnswers.{refused_line, query_line};
 ghost use Rattle.script_text.specs.declared.script.Line.TheVariants.{View as AskView, Map as AskMap, Slot as AskSlot, Record as AskRecord, Size as AskSize};
 
-use crate::stub::World;
+use cluster_core::World;
 use leg_store::LegDev;
 use mdc_types::{LegId, NodeId, Refusal};
 use report_text::{map_text, record_text, refusal_text, size_text, slot_text, view_text};

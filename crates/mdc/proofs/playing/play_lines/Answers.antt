@@ -2,7 +2,7 @@ use Rattle.std.proofs.Common.{arith, ◌≡◌, ◌∙◌, sym, subst, length}
 use Rattle.plain_history.specs.History.{values_at}
 use Rattle.cluster_model.specs.Opening.{Origin}
 use Rattle.laws_history.specs.Laws.{WorkingLegsTell}
-use Rattle.mdc.specs.World.{state}
+use Rattle.cluster_core.specs.World.{state}
 use Rattle.mdc.specs.Opened.{stand}
 use Rattle.mdc.specs.Playing.{Takes}
 use Rattle.mdc.proofs.Played.{takes_told, next_line, cut_at, halt_at, full_at}

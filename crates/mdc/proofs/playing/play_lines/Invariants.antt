@@ -1,7 +1,7 @@
 use Rattle.std.proofs.Common.{◌≡◌, ◌≤◌, take}
 use Rattle.plain_history.specs.History.{values_at}
 use Rattle.laws_history.specs.Laws.{WorkingLegsTell}
-use Rattle.mdc.specs.World.{state}
+use Rattle.cluster_core.specs.World.{state}
 use Rattle.mdc.specs.Opened.{stand}
 use Rattle.mdc.specs.Playing.{SoFar}
 use Rattle.mdc.proofs.playing.play_lines.Given as goal

@@ -1,0 +1,131 @@
+use crate::array::open_world;
+use crate::play::play;
+use crate::status::Status;
+use script_text::{MemSink, MemSource, ScriptEnd, read_script};
+use std::alloc::{AllocError, Global};
+
+// The status of a call with these words, parted by spaces, and what it wrote. The calls of these
+// numbers fail, which count from 0.
+fn played(
+    alloc: Global,
+    words: &str,
+    script: &[u8],
+    read: u32,
+    write: u32,
+) -> Result<(Status, MemSink), AllocError> {
+    let mut owned = Vec::new(alloc);
+    for word in words.split_terminator(' ') {
+        owned.push(String::from_str(alloc, word)?)?;
+    }
+    let script = Vec::from_slice(alloc, script)?;
+    let mut source = MemSource::new(script, Vec::from_slice(alloc, &[read])?);
+    let mut sink = MemSink::new(alloc, 2_000_000, Vec::from_slice(alloc, &[write])?)?;
+    let status = play(alloc, owned.as_slice(), &mut source, &mut sink);
+    Ok((status, sink))
+}
+
+// No call has this number.
+const NEVER: u32 = 99_999_999;
+
+const FIRST: &str = "warm 2 16 4 1\nw 0 5 6869\nout 0 0 0\nout 0 0 1\nok 0 0\nr 0 5\nin 0 0\nend\n";
+
+// A whole round tells the others that a leg failed.
+const ROUND: &str = "array 2 16 4 3\ncut 0 1\nw 0 5 01\nbit 0 0 0\nbit 0 0 1\ntoken 0\ngrant token\nmessage 0\ngrant message\noffer 0 meta\npublish 0\nsb 0 0\npublish 0\ngrant ack\ntake 1\nprocessed 1\ntake 2\nprocessed 2\ngrant ack\ngrant message\nfinish 0\ngrant message\ngrant message\nresume 1\nresume 2\nview 2\nout 0 0 0\nok 0 0\ncheck\nend\n";
+
+const ROUND_SAYS: &str = "done\nwrite 0\ndone\nlost 1\ndone\ngranted 0 EX\ndone\ngranted 0 EX\nevents 2\nrefused not-written 0\ndone\ndone\nrefused not-grantable 1 CR\nmessage metadata-updated 0\ndone\nmessage metadata-updated 0\ndone\ngranted 0 EX\nrefused not-grantable 0 CW\ndone\ngranted 1 PR\ngranted 2 PR\nwhole\nwhole\nview 2 up WF lost - unacked -\ndone\ndone\nlegal 23\n";
+
+// A dead node's slot is recovered, and each kind of query is asked.
+const RECOVERY: &str = "array 2 16 4 2\nw 0 5 6869\nbit 0 0 0\nbit 0 0 1\nout 0 0 0\nmap 0\nslot 1 0\nview 0\nsize 1\ndie 0\nrecord\nview 0\nr 1 5\nin 1 0\nresync 1\ngrant resync\nrec 1 0\nslotin 1 0 0\nslotin 1 0 1\nslotout 1 0 0\nbit 1 0 0\nbit 1 0 1\nslotout 1 0 0\nslotout 1 0 1\npass 1 own\nmap 1\nslot 0 0\nslot 2 0\nmap 8\ncheck\nend\n";
+
+const RECOVERY_SAYS: &str = "write 0\ndone\ndone\ndone\nmap 0 set 1 need -\nslot 1 0 set 1\nview 0 up WW lost - unacked -\nsize 1 16 sure 16\ndone\nrecord live 1 pending 0 drawn 1 completed 1\nview 0 out\nread 0\nvalue 0 6869\ndone\ngranted 1 EX\ndone\ndone\ndone\nrefused bit-missing 0\ndone\ndone\ndone\ndone\ndone\nmap 1 set 1 need 1\nslot 0 0 set -\nrefused no-leg 2\nrefused no-node 8\nlegal 17\n";
+
+const LOCKS: &str =
+    "ask 0 message EX\ngrant message\nconvert 0 message CW\nrelease 1 message\nend\nfrob\n";
+
+// The words, the script, the read and the write that fail, the number of the status and the text.
+const CALLS: &[(&str, &str, u32, u32, u8, &str)] = &[
+    (
+        "play",
+        FIRST,
+        NEVER,
+        NEVER,
+        0,
+        "write 0\ndone\ndone\ndone\nread 0\nvalue 0 6869\n",
+    ),
+    ("play", ROUND, NEVER, NEVER, 0, ROUND_SAYS),
+    ("play", RECOVERY, NEVER, NEVER, 0, RECOVERY_SAYS),
+    // A transfer fails that a line names, and the leg is lost.
+    (
+        "play",
+        "warm 2 16 4 1\nfault 1 0 new\nfault 0 1 old\nw 0 5 01\nout 0 0 0\nout 0 0 1\nview 0\nr 0 5\nin 0 0\nin 0 0\nend\n",
+        NEVER,
+        NEVER,
+        0,
+        "write 0\ndone\nlost 1\nview 0 up WW lost 1 unacked 1\nread 0\nio 0\nrefused no-read 0\n",
+    ),
+    // What stands after the line `end` isn't judged.
+    ("play", "warm 2 16 4 1\nend\nfrob\n", NEVER, NEVER, 0, ""),
+    (
+        "locks",
+        LOCKS,
+        NEVER,
+        NEVER,
+        0,
+        "asked\ngranted 0 EX\nconverted\nrefused not-held\n",
+    ),
+    ("frob", FIRST, NEVER, NEVER, 2, "usage\n"),
+    ("", FIRST, NEVER, NEVER, 2, "usage\n"),
+    ("play", "", NEVER, NEVER, 3, "script 1 no-array\n"),
+    ("locks", "", NEVER, NEVER, 3, "script 1 no-end\n"),
+    ("play", "frob\n", 1, NEVER, 5, "read-fault\n"),
+    ("locks", LOCKS, 1, NEVER, 5, "read-fault\n"),
+    ("play", FIRST, NEVER, 0, 6, ""),
+    ("locks", LOCKS, NEVER, 0, 6, ""),
+    // The last line of a call that comes to nothing is a write too.
+    ("frob", FIRST, NEVER, 0, 6, ""),
+    ("play", "frob\n", NEVER, 0, 6, ""),
+    ("play", FIRST, 1, 0, 6, ""),
+];
+
+#[test]
+fn calls(rt: HostRuntime) -> Result<(), AllocError> {
+    for (words, script, read, write, code, text) in CALLS {
+        let (status, sink) = played(rt.alloc(), words, script.as_bytes(), *read, *write)?;
+        assert_eq!(rt; status.code(), *code, "at {words} {script:?}");
+        assert_eq!(rt; sink.bytes(), text.as_bytes(), "at {words} {script:?}");
+    }
+    Ok(())
+}
+
+// A trace with as many entries as it may have: refusals go on, the next accepted event ends the
+// call.
+#[test]
+fn the_trace_is_full(rt: HostRuntime) -> Result<(), AllocError> {
+    let mut script = String::from_str(rt.alloc(), "warm 2 16 4 1\n")?;
+    for k in 0..32_768_u32 {
+        script.push_str("r 0 5\nin 0 ")?;
+        script.push_str(k.to_string(rt.alloc())?.as_str())?;
+        script.push_str("\n")?;
+    }
+    script.push_str("in 0 0\nr 0 5\nr 0 5\nend\n")?;
+    let (status, sink) = played(rt.alloc(), "play", script.as_str().as_bytes(), NEVER, NEVER)?;
+    assert_eq!(rt; status.code(), 9);
+    assert!(rt;
+        sink.bytes()
+            .ends_with(b"value 0 -\nrefused no-read 0\ntrace-full\n")
+    );
+    Ok(())
+}
+
+#[test]
+fn a_world_takes_room(rt: HostRuntime) -> Result<(), AllocError> {
+    let script = match read_script(rt.alloc(), FIRST.as_bytes()) {
+        Ok(script) => script,
+        Err(ScriptEnd::Memory) => return Err(AllocError),
+        Err(ScriptEnd::Fault(_)) => return Ok(()),
+    };
+    let mut world = open_world(rt.alloc(), &script)?;
+    world.reserve(10)?;
+    assert!(rt; world.spare() >= 10);
+    Ok(())
+}
