@@ -1,5 +1,5 @@
 -- Legs of a header, one after another, and what they are to an opening.
-use Rattle.std.proofs.Common.{◌≡◌, ℕ, ◌+◌, ◌<◌, ◌≤◌, Bool, List, [], ◌∷◌, ◌++◌, length, map, get_or, refl, arith, ap, sym, subst, ◌∙◌, inl, inr, Some, None}
+use Rattle.std.proofs.Common.{◌≡◌, ℕ, ◌+◌, ◌<◌, ◌≤◌, Bool, List, [], ◌∷◌, ◌++◌, length, map, get_or, refl, arith, ap, sym, subst, ◌∙◌, inl, inr, None}
 use Rattle.std.proofs.lemmas.Bool.{cases_lt}
 use Rattle.std.proofs.lemmas.List.{length_push, get_or_append_left, get_or_push, length-map, get_or-map, map-append}
 use Rattle.mdc_types.specs.Geometry.{Sizes, length_of, nodes_of}
@@ -67,6 +67,7 @@ header_legs_fit o legs are = record {
 } where
   nothing : Memory
   nothing = record { sectors = []; failing = []; transfers = 0; faults = 0 }
+
   size_at : (legs : List Memory) (l : ℕ) → l < length legs → get_or (map (λ leg. length leg.sectors) legs) l 0 ≡ length (sectors_at legs l)
   size_at legs l lt = get_or-map (λ leg. length leg.sectors) legs l nothing 0 lt
       ∙ sym (ap (λ t. length (sectors_of t)) (get_or-map told legs l nothing None lt))

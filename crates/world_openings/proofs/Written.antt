@@ -11,7 +11,7 @@ use Rattle.mdc_types.specs.Geometry.{Sizes, chunks_of, data_offset_of, nodes_of,
 use Rattle.md_superblock.specs.Superblock.{IsSuper}
 use Rattle.md_superblock.specs.Arrays.{super_for, version_of}
 use Rattle.slot_pages.specs.Slot.{spelled_page}
-use Rattle.cluster_model.specs.Opening.{Origin, array_of, says_of, is_member, opening_set, IsOrigin}
+use Rattle.cluster_model.specs.Opening.{Origin, array_of, says_of, opening_set, IsOrigin}
 
 version_in : (second : Bool) → (1 ≤ version_of second) × (version_of second ≤ 2)
 version_in true = (omega arith, omega arith)
@@ -61,8 +61,10 @@ pub pushed : (xs ys : List Sector) (v : Sector) (n : ℕ) (f : ℕ → Sector) �
     → ((k : ℕ) → k < n → get_or xs k zero_sector ≡ f k) → v ≡ f n
     → (length ys ≡ n + 1) × ((k : ℕ) → k < n + 1 → get_or ys k zero_sector ≡ f k)
 pushed xs ys v n f more count each here =
-    let size : length ys ≡ n + 1 = ap length more ∙ length_push xs v ∙ ap (λ k. k + 1) count in
-    (size, λ k lt. ap (λ zs. get_or zs k zero_sector) more ∙ elim (cases_lt k n) [
-      | inl below ↦ get_or_append_left xs (v ∷ []) zero_sector k (subst (λ j. k < j) (sym count) below) ∙ each k below
-      | inr past ↦ let last : n ≡ k = omega arith in get_or_push xs v zero_sector k (count ∙ last) ∙ here ∙ ap f last
-    ])
+    let size : length ys ≡ n + 1 = ap length more ∙ length_push xs v ∙ ap (λ k. k + 1) count in (
+      size,
+      λ k lt. ap (λ zs. get_or zs k zero_sector) more ∙ elim (cases_lt k n) [
+        | inl below ↦ get_or_append_left xs (v ∷ []) zero_sector k (subst (λ j. k < j) (sym count) below) ∙ each k below
+        | inr past ↦ let last : n ≡ k = omega arith in get_or_push xs v zero_sector k (count ∙ last) ∙ here ∙ ap f last
+      ],
+    )

@@ -61,7 +61,8 @@ fn slot_set(opening: &Opening, slot: NodeId) -> AllOrNone
 fn slot_page(opening: &Opening, slot: NodeId, p: PageNo) -> Sector
     requires slot { slot < nodes_of opening.now.sizes }
     requires page { p < slot_pages opening.now.sizes }
-    ensures { result.bytes ≡ spelled_page opening.now.sizes opening.now.uuid p (opening_set opening.now slot) }
+    ensures { let o = opening.now in
+        result.bytes ≡ spelled_page o.sizes o.uuid p (opening_set o slot) }
 {
     let set = slot_set(opening, slot);
     page_of_flags(&opening.geometry(), &opening.uuid(), p, &set)
@@ -102,9 +103,11 @@ pub fn header_leg(
 ) -> Result<MemLeg, AllocError>
     requires origin { IsOrigin opening.now }
     requires leg { l < opening.now.sizes.legs }
-    ensures faults { IfOk result (λ leg. (leg.failing ≡ faults.items) × (leg.transfers ≡ 0) × (leg.faults ≡ 0)) }
+    ensures faults { IfOk result (λ leg.
+        (leg.failing ≡ faults.items) × (leg.transfers ≡ 0) × (leg.faults ≡ 0)) }
     ensures length { IfOk result (λ leg. length leg.sectors ≡ length_of opening.now.sizes) }
-    ensures sectors { IfOk result (λ leg. (at : ℕ) → at < length_of opening.now.sizes → get_or leg.sectors at zero_sector ≡ header_sector opening.now l at) }
+    ensures sectors { IfOk result (λ leg. (at : ℕ) → at < length_of opening.now.sizes
+        → get_or leg.sectors at zero_sector ≡ header_sector opening.now l at) }
 {
     let length = opening.geometry().length();
     let mut sectors = Vec::with_capacity(alloc, length as usize)?;

@@ -4,6 +4,8 @@
 mod header;
 mod opened;
 mod opening;
+#[cfg(test)]
+mod tests;
 
 pub use header::header_leg;
 pub use opened::open_state;
