@@ -57,36 +57,36 @@ module _ (o : Origin) (faults : List FaultLine) (legs : List Memory)
 
   module _ (g : Sizes) (nodes : ℕ) (warm : Bool) (spares : ℕ)
       (header : o ≡ header_at g nodes warm spares) (some : 1 ≤ nodes) (few : nodes ≤ nodes_of g)
-      where
-    sizes_are : o.sizes ≡ g
-    sizes_are = ap (λ o. o.sizes) header
+    where
+      sizes_are : o.sizes ≡ g
+      sizes_are = ap (λ o. o.sizes) header
 
-    pub new_header : IsHeader o (legs_of (map told legs))
-    new_header = record {
-      nodes = nodes;
-      spares = spares;
-      some = (some, rw sizes_are few);
-      header = rw header refl;
-      contents = λ l at lt within tells. new_contents l at lt within;
-    }
+      pub new_header : IsHeader o (legs_of (map told legs))
+      new_header = record {
+        nodes = nodes;
+        spares = spares;
+        some = (some, rw sizes_are few);
+        header = rw header refl;
+        contents = λ l at lt within tells. new_contents l at lt within;
+      }
 
-    -- a world over these legs is where the script starts
-    pub starts_of : (script : ScriptValue) (w : Seen) → IsOrigin o → faults ≡ script.faults
-        → o ≡ origin_of script.start → core_of w.kept ≡ core_at o
-        → w.legs ≡ seen_of told (λ leg. length leg.sectors) (λ leg. leg.faults) plan_of legs
-        → w.past ≡ [] → Starts script (stand w)
-    starts_of script w origin is_faults is_origin core are_legs none =
-        let legs_is : script.start.legs ≡ o.sizes.legs = sym (ap (λ o. o.sizes.legs) is_origin) in
-        record {
-          opens = subst (λ o. Opens o (state_at (stand w))) is_origin (record {
-            origin = origin;
-            core = core;
-            contents = rw are_legs (inl new_header);
-          });
-          none = none;
-          told = rw are_legs (λ l lt. new_told l (omega (arith, lt, legs_is)));
-          plans = rw (are_legs, ← is_faults) (λ l lt. new_plans l (omega (arith, lt, legs_is)));
-        }
+      -- a world over these legs is where the script starts
+      pub starts_of : (script : ScriptValue) (w : Seen) → IsOrigin o → faults ≡ script.faults
+          → o ≡ origin_of script.start → core_of w.kept ≡ core_at o
+          → w.legs ≡ seen_of told (λ leg. length leg.sectors) (λ leg. leg.faults) plan_of legs
+          → w.past ≡ [] → Starts script (stand w)
+      starts_of script w origin is_faults is_origin core are_legs none =
+          let legs_is : script.start.legs ≡ o.sizes.legs = sym (ap (λ o. o.sizes.legs) is_origin) in
+          record {
+            opens = subst (λ o. Opens o (state_at (stand w))) is_origin (record {
+              origin = origin;
+              core = core;
+              contents = rw are_legs (inl new_header);
+            });
+            none = none;
+            told = rw are_legs (λ l lt. new_told l (omega (arith, lt, legs_is)));
+            plans = rw (are_legs, ← is_faults) (λ l lt. new_plans l (omega (arith, lt, legs_is)));
+          }
 
 passed : {A E : Type 0} (b : Bool) (e : E) (rest : Result A E) (a : A)
     → (if b then Err e else rest) ≡ Ok a → rest ≡ Ok a
@@ -157,10 +157,13 @@ legs_more o faults count legs leg are is = record {
   where
     which : (l : ℕ) → (l < count) ⊎ (count ≤ l)
     which l = grind arith
+
     here : (l : ℕ) → l < count + 1 → count ≤ l → l ≡ count
     here l lt le = omega (arith, lt, le)
+
     zero_from : (l : ℕ) → l ≡ count → l - count ≡ 0
     zero_from l same = omega (arith, same)
+
     at_end : (l : ℕ) → l ≡ count → get_or (legs ++ leg ∷ []) l no_leg ≡ leg
     at_end l same = get_or-append_right legs (leg ∷ []) count l no_leg are.many (omega (arith, same)) ∙ ap (λ k. get_or (leg ∷ []) k no_leg) (zero_from l same)
 

@@ -30,6 +30,10 @@ pub record Stand : Type 0 where
 abbrev pub stand : Seen → Stand
 stand w = record { kept = w.kept; legs = w.legs; past = w.past }
 
+-- the values of each sector at its opening
+abbrev pub base_at : Seen → ℕ → List Sector
+base_at w = values_at w.origin.base
+
 -- the machine's state there
 abbrev pub state_at : Stand → State
 state_at at = state_with at.kept at.legs

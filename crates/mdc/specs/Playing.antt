@@ -100,6 +100,10 @@ pub record FindsFull (old : Stand) (line : Line) : Type 0 where
   pub accepted : refusal (core_of old.kept) event ≡ None
   pub full : length old.past ≡ trace_limit
 
+-- there is an end, with no more entries than a trace may have
+abbrev pub SomeEnd : (Stand → Type 0) → Type 0
+SomeEnd Is = (end : Stand) × (length end.past ≤ trace_limit) × Is end
+
 -- the lines were played: a front of their text was written, and the rest waits
 pub record SoFar (base : ℕ → List Sector) (start : Stand) (lines : List Line) (end : Stand)
     (written : Option (List ℕ)) (waiting : List ℕ) (now : Option (List ℕ)) : Type 0 where

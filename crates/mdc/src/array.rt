@@ -2,7 +2,8 @@ ghost use Rattle.std.specs.Prelude.{◌≡◌, ◌≤◌, ◌<◌, true, false, 
 ghost use Rattle.mdc_types.specs.Bits.{has_bit};
 ghost use Rattle.cluster_model.specs.Opening.{IsOrigin};
 ghost use Rattle.script_text.specs.Header.{start_sizes, most_nodes};
-ghost use Rattle.mdc.specs.Opened.{stand, Starts, origin_of, sizes_of, faults_of, left_by, IsNewLeg, AreNewLegs};
+ghost use Rattle.mdc.specs.Opened.{stand, Starts, origin_of, sizes_of, faults_of, left_by};
+ghost use Rattle.mdc.specs.Opened.{IsNewLeg, AreNewLegs};
 
 use cluster_core::World;
 use leg_store::{Left, MemLeg};
@@ -51,7 +52,8 @@ fn new_legs(
     faults: &[FaultLine],
 ) -> Result<Vec<MemLeg>, AllocError>
     requires { IsOrigin opening.now }
-    ensures { IfOk result (λ legs. AreNewLegs opening.now faults.now opening.now.sizes.legs legs.items) }
+    ensures { IfOk result (λ legs.
+        AreNewLegs opening.now faults.now opening.now.sizes.legs legs.items) }
 {
     let count = opening.geometry().legs();
     let mut legs = Vec::with_capacity(alloc, count as usize)?;

@@ -1,7 +1,7 @@
 ghost use Rattle.std.specs.Prelude.{◌≡◌, length, IfOk, string_bytes};
-ghost use Rattle.plain_history.specs.History.{values_at};
 ghost use Rattle.laws_history.specs.Laws.{WorkingLegsTell};
 ghost use Rattle.cluster_core.specs.World.{state};
+ghost use Rattle.mdc.specs.Opened.{base_at};
 ghost use Rattle.mdc.specs.QueryAnswers.{Checks};
 
 use cluster_core::World;
@@ -14,7 +14,7 @@ use std::alloc::{AllocError, Global};
 pub fn check_answer<L: LegDev>(alloc: Global, world: &World<L>) -> Result<String, AllocError>
     requires told { WorkingLegsTell world.now.origin (state world.now).legs }
     requires base { length world.now.origin.base ≡ world.now.origin.sizes.room }
-    ensures { IfOk result (λ t. Checks (values_at world.now.origin.base) world.now.past (string_bytes t)) }
+    ensures { IfOk result (λ t. Checks (base_at world.now) world.now.past (string_bytes t)) }
 {
     world.history();
     let trace = world.trace();

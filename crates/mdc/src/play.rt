@@ -1,4 +1,5 @@
-ghost use Rattle.std.specs.Prelude.{◌≡◌, ◌≤◌, true, false, is_ok, map, string_bytes, [], ◌++◌, OnOk, OnErr};
+ghost use Rattle.std.specs.Prelude.{◌≡◌, ◌≤◌, true, false, is_ok, map, string_bytes, [], ◌++◌};
+ghost use Rattle.std.specs.Prelude.{OnOk, OnErr};
 ghost use Rattle.mdc_types.specs.Bits.{has_bit};
 ghost use Rattle.mdc_types.specs.Faults.{Rose, HasCause};
 ghost use Rattle.script_text.specs.Header.{start_sizes, most_nodes};
@@ -50,17 +51,19 @@ fn run_script<K: Sink>(alloc: Global, script: &Script, out: &mut TextOut, sink: 
 
 // Writes what waits and a last line.
 fn last_line<K: Sink>(out: &mut TextOut, sink: &mut K, line: &[u8]) -> Result<(), Failed>
-    ensures ok { OnOk result (K.written sink.new ≡ with_back (K.written sink.old) (out.old ++ line.now)) }
-    ensures err { OnErr result (WroteFront (K.written sink.old) (out.old ++ line.now) (K.written sink.new)) }
+    ensures ok { OnOk result
+        (K.written sink.new ≡ with_back (K.written sink.old) (out.old ++ line.now)) }
+    ensures err { OnErr result
+        (WroteFront (K.written sink.old) (out.old ++ line.now) (K.written sink.new)) }
     ensures cause { HasCause (λ e. true) (K.faults sink.old) (K.faults sink.new) result }
 {
     out.put(sink, line)?;
     out.flush(sink)
 }
 
-/// What `mdc` does: it reads the words, and the script from the source. With `play` it plays it over
-/// legs in memory, with `locks` it runs it in a lock space, and it writes one line of text for each line
-/// of the script.
+/// What `mdc` does: it reads the words, and the script from the source. With `play` it plays it
+/// over legs in memory, with `locks` it runs it in a lock space, and it writes one line of text for
+/// each line of the script.
 ///
 /// It waits for nobody and returns, whatever the bytes are. `Answers` says for each status when it
 /// comes and what was written. Whatever the status, nothing was taken from the source that stands

@@ -1,13 +1,14 @@
-ghost use Rattle.std.specs.Prelude.{◌≡◌, ◌≤◌, ◌++◌, ℕ, List, [], Err, IfOk, OnOk, OnErr, length, true, string_bytes};
+ghost use Rattle.std.specs.Prelude.{◌≡◌, ◌≤◌, ◌++◌, ℕ, List, [], Err, IfOk, OnOk, OnErr, length};
+ghost use Rattle.std.specs.Prelude.{true, string_bytes};
 ghost use Rattle.mdc_types.specs.Faults.{Rose, HasCause};
-ghost use Rattle.plain_history.specs.History.{values_at};
 ghost use Rattle.laws_history.specs.Laws.{WorkingLegsTell};
-ghost use Rattle.cluster_core.specs.World.{state, trace_limit};
+ghost use Rattle.cluster_core.specs.World.{state};
 ghost use Rattle.script_text.specs.Outside.{WroteFront, IsDue};
 ghost use Rattle.script_text.specs.declared.script.Line.TheVariants.{Event as event_line};
 ghost use Rattle.mdc.specs.Call.{printed};
-ghost use Rattle.mdc.specs.Playing.{TakesEvent, Takes, FindsFull, SoFar, CutShort, Halted, RanFull};
-ghost use Rattle.mdc.specs.Opened.{Stand, stand};
+ghost use Rattle.mdc.specs.Playing.{TakesEvent, Takes, FindsFull, SomeEnd, SoFar, CutShort, Halted};
+ghost use Rattle.mdc.specs.Playing.{RanFull};
+ghost use Rattle.mdc.specs.Opened.{stand, base_at};
 
 use crate::checking::check_answer;
 use crate::queries::{
@@ -39,12 +40,9 @@ pub enum LinesEnd {
 }
 
 // One event, and what is to be printed for it.
-fn take_event<L: LegDev>(
-    alloc: Global,
-    world: &mut World<L>,
-    e: Event,
-) -> Result<String, LineEnd>
-    ensures ok { IfOk result (λ t. TakesEvent (stand world.old) e (stand world.new) (string_bytes t)) }
+fn take_event<L: LegDev>(alloc: Global, world: &mut World<L>, e: Event) -> Result<String, LineEnd>
+    ensures ok { IfOk result (λ t.
+        TakesEvent (stand world.old) e (stand world.new) (string_bytes t)) }
     ensures full { result ≡ Err LineEnd.TraceFull → FindsFull (stand world.old) (event_line e) }
     ensures same { result ≡ Err LineEnd.TraceFull → world.new ≡ world.old }
     ensures origin { world.new.origin ≡ world.old.origin }
@@ -62,14 +60,11 @@ fn take_event<L: LegDev>(
 }
 
 // One line, and what is to be printed for it.
-fn take_line<L: LegDev>(
-    alloc: Global,
-    world: &mut World<L>,
-    line: Line,
-) -> Result<String, LineEnd>
+fn take_line<L: LegDev>(alloc: Global, world: &mut World<L>, line: Line) -> Result<String, LineEnd>
     requires told { WorkingLegsTell world.old.origin (state world.old).legs }
     requires base { length world.old.origin.base ≡ world.old.origin.sizes.room }
-    ensures ok { IfOk result (λ t. Takes (values_at world.old.origin.base) (stand world.old) line (stand world.new) (string_bytes t)) }
+    ensures ok { IfOk result (λ t.
+        Takes (base_at world.old) (stand world.old) line (stand world.new) (string_bytes t)) }
     ensures full { result ≡ Err LineEnd.TraceFull → FindsFull (stand world.old) line }
     ensures same { result ≡ Err LineEnd.TraceFull → world.new ≡ world.old }
     ensures origin { world.new.origin ≡ world.old.origin }
@@ -91,8 +86,10 @@ fn take_line<L: LegDev>(
 
 // A text and its line feed.
 fn put_line<K: Sink>(out: &mut TextOut, sink: &mut K, text: &str) -> Result<(), Failed>
-    ensures ok { OnOk result (IsDue (K.written sink.old) (out.old ++ printed text.now) out.new (K.written sink.new)) }
-    ensures err { OnErr result (WroteFront (K.written sink.old) (out.old ++ printed text.now) (K.written sink.new)) }
+    ensures ok { OnOk result
+        (IsDue (K.written sink.old) (out.old ++ printed text.now) out.new (K.written sink.new)) }
+    ensures err { OnErr result
+        (WroteFront (K.written sink.old) (out.old ++ printed text.now) (K.written sink.new)) }
     ensures cause { HasCause (λ e. true) (K.faults sink.old) (K.faults sink.new) result }
 {
     out.put(sink, text.as_bytes())?;
@@ -110,11 +107,17 @@ fn play_line<L: LegDev, K: Sink>(
     requires told { WorkingLegsTell world.old.origin (state world.old).legs }
     requires base { length world.old.origin.base ≡ world.old.origin.sizes.room }
     ensures origin { world.new.origin ≡ world.old.origin }
-    ensures ok { OnOk result ((text : List ℕ) × (Takes (values_at world.old.origin.base) (stand world.old) line (stand world.new) text × IsDue (K.written sink.old) (out.old ++ printed text) out.new (K.written sink.new))) }
-    ensures write { result ≡ Err LinesEnd.Write → (text : List ℕ) × (Takes (values_at world.old.origin.base) (stand world.old) line (stand world.new) text × WroteFront (K.written sink.old) (out.old ++ printed text) (K.written sink.new)) }
+    ensures ok { OnOk result ((text : List ℕ)
+        × (Takes (base_at world.old) (stand world.old) line (stand world.new) text
+        × IsDue (K.written sink.old) (out.old ++ printed text) out.new (K.written sink.new))) }
+    ensures write { result ≡ Err LinesEnd.Write → (text : List ℕ)
+        × (Takes (base_at world.old) (stand world.old) line (stand world.new) text
+        × WroteFront (K.written sink.old) (out.old ++ printed text) (K.written sink.new)) }
     ensures rose { result ≡ Err LinesEnd.Write → Rose (K.faults sink.old) (K.faults sink.new) }
-    ensures memory { result ≡ Err LinesEnd.Memory → (K.written sink.new ≡ K.written sink.old) × (out.new ≡ out.old) }
-    ensures full { result ≡ Err LinesEnd.TraceFull → FindsFull (stand world.old) line × (K.written sink.new ≡ K.written sink.old) × (out.new ≡ out.old) }
+    ensures memory { result ≡ Err LinesEnd.Memory
+        → (K.written sink.new ≡ K.written sink.old) × (out.new ≡ out.old) }
+    ensures full { result ≡ Err LinesEnd.TraceFull → FindsFull (stand world.old) line
+        × (K.written sink.new ≡ K.written sink.old) × (out.new ≡ out.old) }
     ensures later { K.faults sink.old ≤ K.faults sink.new }
 {
     match take_line(alloc, world, line) {
@@ -139,11 +142,19 @@ pub fn play_lines<L: LegDev, K: Sink>(
     requires told { WorkingLegsTell world.old.origin (state world.old).legs }
     requires base { length world.old.origin.base ≡ world.old.origin.sizes.room }
     requires empty { out.old ≡ [] }
-    ensures ok { OnOk result ((end : Stand) × (length end.past ≤ trace_limit) × SoFar (values_at world.old.origin.base) (stand world.old) script.now.lines end (K.written sink.old) out.new (K.written sink.new)) }
-    ensures write { result ≡ Err LinesEnd.Write → (end : Stand) × (length end.past ≤ trace_limit) × CutShort (values_at world.old.origin.base) (stand world.old) script.now.lines end (K.written sink.old) (K.written sink.new) }
+    ensures ok { OnOk result (SomeEnd (λ end.
+        SoFar (base_at world.old) (stand world.old) script.now.lines end
+        (K.written sink.old) out.new (K.written sink.new))) }
+    ensures write { result ≡ Err LinesEnd.Write → SomeEnd (λ end.
+        CutShort (base_at world.old) (stand world.old) script.now.lines end
+        (K.written sink.old) (K.written sink.new)) }
     ensures rose { result ≡ Err LinesEnd.Write → Rose (K.faults sink.old) (K.faults sink.new) }
-    ensures memory { result ≡ Err LinesEnd.Memory → (end : Stand) × (length end.past ≤ trace_limit) × Halted (values_at world.old.origin.base) (stand world.old) script.now.lines end (K.written sink.old) out.new (K.written sink.new) }
-    ensures full { result ≡ Err LinesEnd.TraceFull → (end : Stand) × (length end.past ≤ trace_limit) × RanFull (values_at world.old.origin.base) (stand world.old) script.now.lines end (K.written sink.old) out.new (K.written sink.new) }
+    ensures memory { result ≡ Err LinesEnd.Memory → SomeEnd (λ end.
+        Halted (base_at world.old) (stand world.old) script.now.lines end
+        (K.written sink.old) out.new (K.written sink.new)) }
+    ensures full { result ≡ Err LinesEnd.TraceFull → SomeEnd (λ end.
+        RanFull (base_at world.old) (stand world.old) script.now.lines end
+        (K.written sink.old) out.new (K.written sink.new)) }
     ensures later { K.faults sink.old ≤ K.faults sink.new }
 {
     for i in 0..script.len() {

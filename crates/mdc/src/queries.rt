@@ -1,6 +1,10 @@
 ghost use Rattle.std.specs.Prelude.{◌≡◌, IfOk, string_bytes};
 ghost use Rattle.mdc.specs.QueryAnswers.{refused_line, query_line};
-ghost use Rattle.script_text.specs.declared.script.Line.TheVariants.{View as AskView, Map as AskMap, Slot as AskSlot, Record as AskRecord, Size as AskSize};
+ghost use Rattle.script_text.specs.declared.script.Line.TheVariants.{View as AskView};
+ghost use Rattle.script_text.specs.declared.script.Line.TheVariants.{Map as AskMap};
+ghost use Rattle.script_text.specs.declared.script.Line.TheVariants.{Slot as AskSlot};
+ghost use Rattle.script_text.specs.declared.script.Line.TheVariants.{Record as AskRecord};
+ghost use Rattle.script_text.specs.declared.script.Line.TheVariants.{Size as AskSize};
 
 use cluster_core::World;
 use leg_store::LegDev;
@@ -30,7 +34,13 @@ pub fn view_answer<L: LegDev>(
     if n >= geometry.nodes() {
         return refused_text(alloc, &Refusal::NoNode(n));
     }
-    view_text(alloc, n, world.node_state(n), world.view(n), geometry.legs())
+    view_text(
+        alloc,
+        n,
+        world.node_state(n),
+        world.view(n),
+        geometry.legs(),
+    )
 }
 
 /// The answer to `size N`.

@@ -30,14 +30,18 @@ const NEVER: u32 = 99_999_999;
 const FIRST: &str = "warm 2 16 4 1\nw 0 5 6869\nout 0 0 0\nout 0 0 1\nok 0 0\nr 0 5\nin 0 0\nend\n";
 
 // A whole round tells the others that a leg failed.
-const ROUND: &str = "array 2 16 4 3\ncut 0 1\nw 0 5 01\nbit 0 0 0\nbit 0 0 1\ntoken 0\ngrant token\nmessage 0\ngrant message\noffer 0 meta\npublish 0\nsb 0 0\npublish 0\ngrant ack\ntake 1\nprocessed 1\ntake 2\nprocessed 2\ngrant ack\ngrant message\nfinish 0\ngrant message\ngrant message\nresume 1\nresume 2\nview 2\nout 0 0 0\nok 0 0\ncheck\nend\n";
+const ROUND: &str =
+    "array 2 16 4 3\ncut 0 1\nw 0 5 01\nbit 0 0 0\nbit 0 0 1\ntoken 0\ngrant token\nmessage 0\ngrant message\noffer 0 meta\npublish 0\nsb 0 0\npublish 0\ngrant ack\ntake 1\nprocessed 1\ntake 2\nprocessed 2\ngrant ack\ngrant message\nfinish 0\ngrant message\ngrant message\nresume 1\nresume 2\nview 2\nout 0 0 0\nok 0 0\ncheck\nend\n";
 
-const ROUND_SAYS: &str = "done\nwrite 0\ndone\nlost 1\ndone\ngranted 0 EX\ndone\ngranted 0 EX\nevents 2\nrefused not-written 0\ndone\ndone\nrefused not-grantable 1 CR\nmessage metadata-updated 0\ndone\nmessage metadata-updated 0\ndone\ngranted 0 EX\nrefused not-grantable 0 CW\ndone\ngranted 1 PR\ngranted 2 PR\nwhole\nwhole\nview 2 up WF lost - unacked -\ndone\ndone\nlegal 23\n";
+const ROUND_SAYS: &str =
+    "done\nwrite 0\ndone\nlost 1\ndone\ngranted 0 EX\ndone\ngranted 0 EX\nevents 2\nrefused not-written 0\ndone\ndone\nrefused not-grantable 1 CR\nmessage metadata-updated 0\ndone\nmessage metadata-updated 0\ndone\ngranted 0 EX\nrefused not-grantable 0 CW\ndone\ngranted 1 PR\ngranted 2 PR\nwhole\nwhole\nview 2 up WF lost - unacked -\ndone\ndone\nlegal 23\n";
 
 // A dead node's slot is recovered, and each kind of query is asked.
-const RECOVERY: &str = "array 2 16 4 2\nw 0 5 6869\nbit 0 0 0\nbit 0 0 1\nout 0 0 0\nmap 0\nslot 1 0\nview 0\nsize 1\ndie 0\nrecord\nview 0\nr 1 5\nin 1 0\nresync 1\ngrant resync\nrec 1 0\nslotin 1 0 0\nslotin 1 0 1\nslotout 1 0 0\nbit 1 0 0\nbit 1 0 1\nslotout 1 0 0\nslotout 1 0 1\npass 1 own\nmap 1\nslot 0 0\nslot 2 0\nmap 8\ncheck\nend\n";
+const RECOVERY: &str =
+    "array 2 16 4 2\nw 0 5 6869\nbit 0 0 0\nbit 0 0 1\nout 0 0 0\nmap 0\nslot 1 0\nview 0\nsize 1\ndie 0\nrecord\nview 0\nr 1 5\nin 1 0\nresync 1\ngrant resync\nrec 1 0\nslotin 1 0 0\nslotin 1 0 1\nslotout 1 0 0\nbit 1 0 0\nbit 1 0 1\nslotout 1 0 0\nslotout 1 0 1\npass 1 own\nmap 1\nslot 0 0\nslot 2 0\nmap 8\ncheck\nend\n";
 
-const RECOVERY_SAYS: &str = "write 0\ndone\ndone\ndone\nmap 0 set 1 need -\nslot 1 0 set 1\nview 0 up WW lost - unacked -\nsize 1 16 sure 16\ndone\nrecord live 1 pending 0 drawn 1 completed 1\nview 0 out\nread 0\nvalue 0 6869\ndone\ngranted 1 EX\ndone\ndone\ndone\nrefused bit-missing 0\ndone\ndone\ndone\ndone\ndone\nmap 1 set 1 need 1\nslot 0 0 set -\nrefused no-leg 2\nrefused no-node 8\nlegal 17\n";
+const RECOVERY_SAYS: &str =
+    "write 0\ndone\ndone\ndone\nmap 0 set 1 need -\nslot 1 0 set 1\nview 0 up WW lost - unacked -\nsize 1 16 sure 16\ndone\nrecord live 1 pending 0 drawn 1 completed 1\nview 0 out\nread 0\nvalue 0 6869\ndone\ngranted 1 EX\ndone\ndone\ndone\nrefused bit-missing 0\ndone\ndone\ndone\ndone\ndone\nmap 1 set 1 need 1\nslot 0 0 set -\nrefused no-leg 2\nrefused no-node 8\nlegal 17\n";
 
 const LOCKS: &str =
     "ask 0 message EX\ngrant message\nconvert 0 message CW\nrelease 1 message\nend\nfrob\n";
