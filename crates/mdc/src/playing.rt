@@ -138,7 +138,6 @@ pub fn play_lines<L: LegDev, K: Sink>(
     out: &mut TextOut,
     sink: &mut K,
 ) -> Result<(), LinesEnd>
-    requires fresh { world.old.past ≡ [] }
     requires told { WorkingLegsTell world.old.origin (state world.old).legs }
     requires base { length world.old.origin.base ≡ world.old.origin.sizes.room }
     requires empty { out.old ≡ [] }
