@@ -1,26 +1,17 @@
 -- Lines one after another.
-use Rattle.std.proofs.Common.{◌≡◌, ℕ, ◌+◌, ◌<◌, ◌≤◌, Option, Some, None, List, [], ◌∷◌, ◌++◌, length, get_or, take, refl, sym, ◌∙◌, ap, subst, append_assoc, zero, suc, arith}
+use Rattle.std.proofs.Common.{◌≡◌, ℕ, ◌+◌, ◌<◌, ◌≤◌, Option, Some, None, List, [], ◌∷◌, ◌++◌, length, get_or, take, refl, sym, ◌∙◌, ap, subst, zero, suc, arith}
 use Rattle.std.specs.Prelude.{reverse}
 use Rattle.std.specs.List.{AllByRecursion}
-use Rattle.std.proofs.lemmas.List.{reverse-append, take_more, append-nil, length-append, take_all}
-use Rattle.std.proofs.Math.Seq.{take-append-add}
+use Rattle.std.proofs.lemmas.List.{reverse-append, take_more, take_all}
 use Rattle.dlm_space.specs.Locks.{Lock, new_locks}
 use Rattle.dlm_space.specs.Calls.{Call, locks_after, AreAccepted}
 use Rattle.dlm_space.proofs.Told.{calls_are_sound}
-use Rattle.script_text.specs.Outside.{with_back, WroteFront}
+use Rattle.script_text.specs.Outside.{with_back, WroteFront, IsDue}
+use Rattle.script_text.proofs.DueLaws.{due_start, due_more, due_cut, due_cut_all, due_all}
 use Rattle.script_text.specs.declared.locks.LockLine.{LockLine}
 use Rattle.report_text.specs.declared.locks.LockReply.{LockReply}
 use Rattle.lock_script.specs.Replies.{Replies, Takes, locks_with, calls_with}
 use Rattle.lock_script.specs.Runs.{reply_text, Runs, Ran, RanAll, RanSome, RanCut, SoFar}
-
--- one piece after another is both at once
-with_back-append : (w : Option (List ℕ)) (a b : List ℕ) → with_back (with_back w a) b ≡ with_back w (a ++ b)
-with_back-append None a b = refl
-with_back-append (Some w) a b = ap Some (append_assoc w a b)
-
-with_back-nil : (w : Option (List ℕ)) → with_back w [] ≡ w
-with_back-nil None = refl
-with_back-nil (Some w) = ap Some (append-nil w)
 
 -- each accepted call was accepted in its turn
 with_accepted : (before : List Call) (line : LockLine) (called : Option Call) (reply : LockReply) → AreAccepted before → Replies (locks_after before) line called reply → AreAccepted (calls_with before called)
@@ -37,25 +28,30 @@ ran_of lines past text runs =
     let accepted = accepted_of (reverse lines) past text runs in
     record { runs = runs; accepted = accepted; sound = calls_are_sound past accepted }
 
-pub begins : (locks : ℕ → Lock) (w : Option (List ℕ)) → locks ≡ new_locks → SoFar [] locks w w
-begins locks w is = record { past = []; text = []; runs = (refl, refl); left = is; wrote = sym (with_back-nil w) }
+pub begins : (locks : ℕ → Lock) (w : Option (List ℕ)) (waiting : List ℕ) → locks ≡ new_locks → waiting ≡ [] → SoFar [] locks w waiting w
+begins locks w waiting is none = record { past = []; text = []; runs = (refl, refl); left = is; due = subst (λ r. IsDue w [] r w) (sym none) (due_start w) }
 
 locks_more : (past : List Call) (called : Option Call) → locks_with (locks_after past) called ≡ locks_after (calls_with past called)
 locks_more past None = refl
 locks_more past (Some call) = refl
 
--- all of them
-ran_all : (lines : List LockLine) (locks : ℕ → Lock) (w s : Option (List ℕ)) → SoFar lines locks w s → RanAll lines w s
-ran_all lines locks w s a = record { past = a.past; text = a.text; ran = ran_of lines a.past a.text a.runs; wrote = a.wrote }
+-- all of them, when what waits is written
+ran_all : (lines : List LockLine) (locks : ℕ → Lock) (w s now : Option (List ℕ)) (waiting : List ℕ) → SoFar lines locks w waiting s → now ≡ with_back s waiting → RanAll lines w now
+ran_all lines locks w s now waiting a wrote = record { past = a.past; text = a.text; ran = ran_of lines a.past a.text a.runs; wrote = due_all w s now a.text waiting a.due wrote }
 
-pub ran_to_end : (lines : List LockLine) (i : ℕ) (locks : ℕ → Lock) (w s : Option (List ℕ)) → length lines ≤ i → SoFar (take i lines) locks w s → RanAll lines w s
-ran_to_end lines i locks w s le a = ran_all lines locks w s (subst (λ ls. SoFar ls locks w s) (take_all i lines le) a)
+-- what waits was to be written, and a write failed
+pub ran_cut : (lines : List LockLine) (i : ℕ) (locks : ℕ → Lock) (w s now : Option (List ℕ)) (waiting : List ℕ) → SoFar (take i lines) locks w waiting s → WroteFront s waiting now → RanCut lines w now
+ran_cut lines i locks w s now waiting a cut = record { count = i; past = a.past; text = a.text; ran = ran_of (take i lines) a.past a.text a.runs; wrote = due_cut_all w s now a.text waiting a.due cut }
+
+pub ran_to_end : (lines : List LockLine) (i : ℕ) (locks : ℕ → Lock) (w s now : Option (List ℕ)) (waiting : List ℕ) → length lines ≤ i → SoFar (take i lines) locks w waiting s → now ≡ with_back s waiting
+    → RanAll lines w now
+ran_to_end lines i locks w s now waiting le a wrote = ran_all lines locks w s now waiting (subst (λ ls. SoFar ls locks w waiting s) (take_all i lines le) a) wrote
 
 module _ (lines : List LockLine) (i : ℕ) (line : LockLine) (lt : i < length lines) (is : line ≡ get_or lines i line) where
   newest : reverse (take (i + 1) lines) ≡ line ∷ reverse (take i lines)
   newest = ap reverse (take_more lines i line lt ∙ ap (λ x. take i lines ++ x ∷ []) (sym is)) ∙ reverse-append (take i lines) (line ∷ [])
 
-  module _ (locks later : ℕ → Lock) (w s : Option (List ℕ)) (a : SoFar (take i lines) locks w s) (reply : LockReply) (t : Takes locks line later reply) where
+  module _ (locks later : ℕ → Lock) (w s now : Option (List ℕ)) (waiting : List ℕ) (a : SoFar (take i lines) locks w waiting s) (reply : LockReply) (t : Takes locks line later reply) where
     runs_more : Runs (reverse (take (i + 1) lines)) (calls_with a.past t.called) (a.text ++ reply_text reply)
     runs_more = rw newest (record {
       before = a.past;
@@ -69,33 +65,29 @@ module _ (lines : List LockLine) (i : ℕ) (line : LockLine) (lt : i < length li
     })
 
     -- a line more
-    pub next_line : (now : Option (List ℕ)) → now ≡ with_back s (reply_text reply) → SoFar (take (i + 1) lines) later w now
-    next_line now wrote = record {
+    pub next_line : (rest : List ℕ) → IsDue s (waiting ++ reply_text reply) rest now → SoFar (take (i + 1) lines) later w rest now
+    next_line rest due = record {
       past = calls_with a.past t.called;
       text = a.text ++ reply_text reply;
       runs = runs_more;
       left = t.after ∙ ap (λ ls. locks_with ls t.called) a.left ∙ locks_more a.past t.called;
-      wrote = wrote ∙ ap (λ x. with_back x (reply_text reply)) a.wrote ∙ with_back-append w a.text (reply_text reply);
+      due = due_more w s now a.text waiting (reply_text reply) rest a.due due;
     }
 
     -- a line more, whose text was cut off
-    pub cut_at : (now : Option (List ℕ)) → WroteFront s (reply_text reply) now → RanCut lines w now
-    cut_at now front = record {
+    pub cut_at : WroteFront s (waiting ++ reply_text reply) now → RanCut lines w now
+    cut_at front = record {
       count = i + 1;
       past = calls_with a.past t.called;
       text = a.text ++ reply_text reply;
       ran = ran_of (take (i + 1) lines) (calls_with a.past t.called) (a.text ++ reply_text reply) runs_more;
-      wrote = (
-        length a.text + front.0,
-        omega (arith, length-append a.text (reply_text reply), front.1),
-        front.2 ∙ ap (λ x. with_back x (take front.0 (reply_text reply))) a.wrote ∙ with_back-append w a.text (take front.0 (reply_text reply))
-            ∙ ap (with_back w) (sym (take-append-add a.text (reply_text reply) front.0)),
-      );
+      wrote = due_cut w s now a.text waiting (reply_text reply) a.due front;
     }
 
--- a line that isn't printed
-pub halt_at : (lines : List LockLine) (i : ℕ) (locks : ℕ → Lock) (w s now : Option (List ℕ)) → i < length lines → SoFar (take i lines) locks w s → now ≡ s → RanSome lines w now
-halt_at lines i locks w s now lt a same = record { count = i; few = lt; first = subst (λ x. RanAll (take i lines) w x) (sym same) (ran_all (take i lines) locks w s a) }
+-- a line that isn't printed: what waits was written
+pub halt_at : (lines : List LockLine) (i : ℕ) (locks : ℕ → Lock) (w s now : Option (List ℕ)) (waiting : List ℕ) → i < length lines → SoFar (take i lines) locks w waiting s → now ≡ with_back s waiting
+    → RanSome lines w now
+halt_at lines i locks w s now waiting lt a wrote = record { count = i; few = lt; first = ran_all (take i lines) locks w s now waiting a wrote }
 
 -- what holds of each line
 pub all_at : (P : LockLine → Type 0) (lines : List LockLine) → AllByRecursion P lines → (i : ℕ) (line : LockLine) → i < length lines → line ≡ get_or lines i line → P line

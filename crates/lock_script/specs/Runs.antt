@@ -4,7 +4,7 @@ use Rattle.dlm_space.specs.Locks.{Lock}
 use Rattle.dlm_space.specs.Calls.{Call, locks_after, AreAccepted}
 use Rattle.dlm_space.specs.Sound.{LockSound}
 use Rattle.script_text.specs.declared.locks.LockLine.{LockLine}
-use Rattle.script_text.specs.Outside.{with_back, WroteFront}
+use Rattle.script_text.specs.Outside.{with_back, WroteFront, IsDue}
 use Rattle.report_text.specs.declared.locks.LockReply.{LockReply}
 use Rattle.report_text.specs.Locks.{reply_line}
 use Rattle.lock_script.specs.Replies.{Replies, calls_with}
@@ -56,10 +56,10 @@ pub record RanCut (lines : List LockLine) (written now : Option (List ℕ)) : Ty
   pub ran : Ran (take count lines) past text
   pub wrote : WroteFront written text now
 
--- the lines so far, the locks that they left, and what was written
-pub record SoFar (lines : List LockLine) (locks : ℕ → Lock) (written now : Option (List ℕ)) : Type 0 where
+-- the lines so far, the locks that they left, and their text: a front of it was written, and the rest waits
+pub record SoFar (lines : List LockLine) (locks : ℕ → Lock) (written : Option (List ℕ)) (waiting : List ℕ) (now : Option (List ℕ)) : Type 0 where
   pub past : List Call
   pub text : List ℕ
   pub runs : Runs (reverse lines) past text
   pub left : locks ≡ locks_after past
-  pub wrote : now ≡ with_back written text
+  pub due : IsDue written text waiting now

@@ -1,9 +1,9 @@
-ghost use Rattle.std.specs.Prelude.{◌≡◌, ◌≤◌, Err, IfOk, OnOk, string_bytes};
+ghost use Rattle.std.specs.Prelude.{◌≡◌, ◌≤◌, ◌++◌, [], Err, IfOk, OnOk, string_bytes};
 ghost use Rattle.std.specs.List.{AllByRecursion};
 ghost use Rattle.dlm_space.specs.Parts.{locks_of};
 ghost use Rattle.mdc_types.specs.Faults.{Rose};
 ghost use Rattle.script_text.specs.Locks.{IsLockLine};
-ghost use Rattle.script_text.specs.Outside.{with_back, WroteFront};
+ghost use Rattle.script_text.specs.Outside.{WroteFront, IsDue};
 ghost use Rattle.report_text.specs.declared.locks.LockReply.{LockReply};
 ghost use Rattle.lock_script.specs.Replies.{Takes};
 ghost use Rattle.lock_script.specs.Runs.{reply_text, RanAll, RanSome, RanCut};
@@ -11,7 +11,7 @@ ghost use Rattle.lock_script.specs.Runs.{reply_text, RanAll, RanSome, RanCut};
 use crate::replies::reply;
 use dlm_space::Space;
 use report_text::{LockReply, lock_reply_text};
-use script_text::{LockLine, Sink, write_all};
+use script_text::{LockLine, Sink, TextOut};
 use std::alloc::{AllocError, Global};
 
 /// Why a lock script was not run to its end.
@@ -36,18 +36,20 @@ fn run_line<K: Sink>(
     alloc: Global,
     space: &mut Space,
     line: LockLine,
+    out: &mut TextOut,
     sink: &mut K,
 ) -> Result<(), LocksEnd>
     requires { IsLockLine line }
-    ensures ok { OnOk result ((reply : LockReply) × (Takes (locks_of space.old) line (locks_of space.new) reply × (K.written sink.new ≡ with_back (K.written sink.old) (reply_text reply)))) }
-    ensures write { result ≡ Err LocksEnd.Write → (reply : LockReply) × (Takes (locks_of space.old) line (locks_of space.new) reply × WroteFront (K.written sink.old) (reply_text reply) (K.written sink.new)) }
-    ensures memory { result ≡ Err LocksEnd.Memory → K.written sink.new ≡ K.written sink.old }
+    ensures ok { OnOk result ((reply : LockReply) × (Takes (locks_of space.old) line (locks_of space.new) reply × IsDue (K.written sink.old) (out.old ++ reply_text reply) out.new (K.written sink.new))) }
+    ensures write { result ≡ Err LocksEnd.Write → (reply : LockReply) × (Takes (locks_of space.old) line (locks_of space.new) reply × WroteFront (K.written sink.old) (out.old ++ reply_text reply) (K.written sink.new)) }
+    ensures gone { result ≡ Err LocksEnd.Write → out.new ≡ [] }
+    ensures memory { result ≡ Err LocksEnd.Memory → (K.written sink.new ≡ K.written sink.old) × (out.new ≡ out.old) }
     ensures rose { result ≡ Err LocksEnd.Write → Rose (K.faults sink.old) (K.faults sink.new) }
     ensures later { K.faults sink.old ≤ K.faults sink.new }
 {
     let reply = reply(space, line);
     match reply_text(alloc, &reply) {
-        Ok(text) => match write_all(sink, text.as_str().as_bytes()) {
+        Ok(text) => match out.put(sink, text.as_str().as_bytes()) {
             Ok(()) => Ok(()),
             Err(_) => Err(LocksEnd::Write),
         },
@@ -55,24 +57,42 @@ fn run_line<K: Sink>(
     }
 }
 
-/// Runs the lines in order in a new lock space, and writes a line of text for each.
+/// Runs the lines in order in a new lock space, and writes a line of text for each, through `out`, where
+/// nothing may wait before and nothing waits after.
 ///
 /// The calls that are accepted are a list of which `dlm_space`'s law of all such lists speaks. Where a
 /// write fails, a front of the text of the first lines was written; where memory is wanting, all of it.
-pub fn run_locks<K: Sink>(alloc: Global, lines: &[LockLine], sink: &mut K) -> Result<(), LocksEnd>
-    requires { AllByRecursion IsLockLine lines.now }
+pub fn run_locks<K: Sink>(
+    alloc: Global,
+    lines: &[LockLine],
+    out: &mut TextOut,
+    sink: &mut K,
+) -> Result<(), LocksEnd>
+    requires lines { AllByRecursion IsLockLine lines.now }
+    requires empty { out.old ≡ [] }
     ensures ok { OnOk result (RanAll lines.now (K.written sink.old) (K.written sink.new)) }
     ensures write { result ≡ Err LocksEnd.Write → RanCut lines.now (K.written sink.old) (K.written sink.new) }
     ensures memory { result ≡ Err LocksEnd.Memory → RanSome lines.now (K.written sink.old) (K.written sink.new) }
+    ensures gone { out.new ≡ [] }
     ensures rose { result ≡ Err LocksEnd.Write → Rose (K.faults sink.old) (K.faults sink.new) }
     ensures later { K.faults sink.old ≤ K.faults sink.new }
 {
     let mut space = Space::new();
     for line in lines {
-        match run_line(alloc, &mut space, *line, sink) {
+        match run_line(alloc, &mut space, *line, out, sink) {
             Ok(()) => {}
-            Err(why) => return Err(why),
+            Err(LocksEnd::Write) => return Err(LocksEnd::Write),
+            // The text of the lines before is written.
+            Err(LocksEnd::Memory) => {
+                return match out.flush(sink) {
+                    Ok(()) => Err(LocksEnd::Memory),
+                    Err(_) => Err(LocksEnd::Write),
+                };
+            }
         }
     }
-    Ok(())
+    match out.flush(sink) {
+        Ok(()) => Ok(()),
+        Err(_) => Err(LocksEnd::Write),
+    }
 }

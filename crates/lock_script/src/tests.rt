@@ -1,5 +1,5 @@
 use crate::{LocksEnd, run_locks};
-use script_text::{MemSink, read_locks};
+use script_text::{MemSink, TextOut, read_locks};
 use std::alloc::Global;
 use std::test::Fail;
 
@@ -7,7 +7,8 @@ use std::test::Fail;
 fn run(alloc: Global, script: &str, failing: u32) -> Result<(Result<(), LocksEnd>, MemSink), Fail> {
     let script = read_locks(alloc, script.as_bytes()).ok().ok_or("a script")?;
     let mut sink = MemSink::new(alloc, 1000, Vec::from_slice(alloc, &[failing])?)?;
-    let end = run_locks(alloc, script.lines(), &mut sink);
+    let mut out = TextOut::new(alloc)?;
+    let end = run_locks(alloc, script.lines(), &mut out, &mut sink);
     Ok((end, sink))
 }
 
@@ -36,7 +37,8 @@ const RUNS: &[(&str, u32, Result<(), LocksEnd>, &str)] = &[
         "granted 0 PR\nrefused not-free\nrefused not-held\nrefused blocked 0 PR\nasked\nrefused already-asked\nrefused nothing-asked\ngranted 2 CR\nrefused not-grantable 2 CR\ncalls 0\ncalls -\ndone\ngranted 0 EX\nconverted\n",
     ),
     ("end\n", 99, Ok(()), ""),
-    (SENDER, 2, Err(LocksEnd::Write), "asked\ngranted 0 EX\n"),
+    // All is written in one call.
+    (SENDER, 0, Err(LocksEnd::Write), ""),
 ];
 
 #[test]

@@ -1,144 +1,197 @@
 -- From the lines that were played to what the program answers.
-use Rattle.std.proofs.Common.{◌≡◌, inl, inr, ℕ, ◌+◌, ◌<◌, ◌≤◌, ◌⊎◌, arith, Option, Some, None, Ok, Err, Bool, true, false, cond, List, [], ◌∷◌, ◌++◌, length, take, refl, sym, ◌∙◌, ap, subst}
-use Rattle.std.specs.Prelude.{reverse, slice_get, codes}
-use Rattle.std.proofs.Math.Seq.{take-append-add}
+use Rattle.std.proofs.Common.{◌≡◌, inl, inr, ℕ, ◌<◌, ◌≤◌, ◌⊎◌, arith, Option, Some, None, Ok, Err, Bool, true, false, cond, List, [], ◌∷◌, ◌++◌, length, take, refl, sym, ◌∙◌, ap, subst}
+use Rattle.std.specs.Prelude.{reverse, slice_get, codes, IfSome}
+use Rattle.std.proofs.lemmas.List.{append_assoc}
+use Rattle.std.proofs.Math.Seq.{take-length}
 use Rattle.mdc_types.specs.Faults.{Rose}
+use Rattle.mdc_types.specs.Roles.{role_of}
+use Rattle.mdc_types.specs.declared.roles.Role.TheVariants.{Spare}
 use Rattle.mdc_types.specs.declared.outcomes.Entry.{Entry}
-use Rattle.io_model.specs.State.{State}
-use Rattle.io_model.specs.Opening.{Opens}
+use Rattle.cluster_model.specs.State.{State}
+use Rattle.cluster_model.specs.Run.{Run}
+use Rattle.laws_history.specs.Laws.{WorkingLegsTell}
+use Rattle.laws_history.proofs.Places.{runs_cut, legs_tell}
+use Rattle.laws_history.proofs.Runs.{runs_legal, runs_fresh}
+use Rattle.cluster_core.specs.World.{trace_limit}
 use Rattle.script_text.specs.declared.command.Command.{Command}
 use Rattle.script_text.specs.declared.command.Command.TheVariants as commands
 use Rattle.script_text.specs.declared.command.WordsEnd.{WordsEnd}
 use Rattle.script_text.specs.declared.command.WordsEnd.TheVariants.{Memory}
 use Rattle.script_text.specs.declared.locks.LockLine.{LockLine}
-use Rattle.script_text.specs.Locks.{IsLockScript, lock_script_of, lock_fault_of}
-use Rattle.script_text.specs.Words.{command_of}
-use Rattle.std.specs.Str.{bytes_eq}
 use Rattle.script_text.specs.declared.faults.ScriptFault.{ScriptFault}
-use Rattle.script_text.specs.declared.script.Start.{Start}
 use Rattle.script_text.specs.declared.script.Line.{Line}
-use Rattle.script_text.specs.declared.script.Line.TheVariants.{Event as event_line}
+use Rattle.script_text.specs.Locks.{IsLockScript, lock_script_of, lock_fault_of}
+use Rattle.script_text.specs.Lines.{input_part}
+use Rattle.script_text.specs.Outside.{with_front, with_back, WroteFront, IsDue, TookOfPart}
 use Rattle.script_text.specs.Script.{ScriptValue, IsScript, script_of, fault_of}
-use Rattle.script_text.specs.Outside.{with_back, WroteFront}
-use Rattle.io_model.specs.Run.{Run}
-use Rattle.mdc_types.specs.Roles.{role_of}
-use Rattle.mdc_types.specs.declared.roles.Role.TheVariants.{Spare}
-use Rattle.io_history.specs.Laws.{WorkingLegsTell}
-use Rattle.io_history.proofs.Places.{runs_cut, legs_tell}
-use Rattle.io_history.proofs.Runs.{runs_legal, runs_fresh}
-use Rattle.cluster_core.specs.World.{trace_limit}
-use Rattle.mdc.specs.Lines.{AllTold, AtPlace, Playing, origin_of, Plays, Sofar, CutShort, RanFull}
-use Rattle.mdc.specs.Outside.{Outside, Wrote, WroteLess, Reads, usage_line, read_fault_line, script_line}
-use Rattle.mdc.specs.Answers.{Judged, PlayAnswers, AnswersTo, Answers, Ran, PlaysSome, PlaysFull, ReadsScript, ReadsNone, trace_full_line}
-use Rattle.mdc.specs.Answers.RunText.{some_lines, then_full}
+use Rattle.script_text.specs.Words.{command_of}
+use Rattle.script_text.proofs.DueLaws.{due_all, due_cut_all}
+use Rattle.std.specs.Str.{bytes_eq}
+use Rattle.mdc.specs.Call.{Outside, Wrote, WroteLess, Reads, usage_line, read_fault_line, script_line, trace_full_line}
+use Rattle.mdc.specs.Opened.{Stand, state_at, origin_of, base_of, Starts}
+use Rattle.mdc.specs.Playing.{AtPlace, Playing, Plays, SoFar, CutShort, Halted, RanFull}
+use Rattle.mdc.specs.Answers.{Judged, PlayAnswers, AnswersTo, Answers, Ran, PlaysFirst, PlaysFull, PlaysSome, ReadsScript, ReadsNone}
+use Rattle.mdc.specs.Answers.RunText.{first_lines, then_full}
 use Rattle.mdc.specs.Answers.IsText.{no_input, no_script, of_run}
-use Rattle.mdc.specs.LockAnswers.{ReadsLocks, ReadsNoLocks, LocksJudged, LockAnswers}
+use Rattle.mdc.specs.LockAnswers.{ReadsLocks, ReadsNoLocks, LocksJudged, LockAnswers, FaultTold}
 use Rattle.mdc.specs.LockAnswers.LocksCut.{at_input, at_fault, in_run}
 use Rattle.mdc.specs.declared.status.Status.{Status}
 use Rattle.mdc.specs.declared.status.Status.TheVariants as statuses
-use Rattle.mdc.proofs.Played.{run_of, with_back-append}
+use Rattle.mdc.proofs.Played.{run_of}
 
 leg_cases : (l legs : ℕ) → (l < legs) ⊎ (legs ≤ l)
 leg_cases l legs = grind arith
 
-module _ (script : ScriptValue) (header : Start) (lines : List Line) (of_header : header ≡ script.start) (of_lines : lines ≡ script.lines)
-    (start end : State) (past : List Entry) (w now : Option (List ℕ)) (opens : Opens (origin_of header) start) (told : AllTold header start) (few : length past ≤ trace_limit) where
-  opened : Opens (origin_of script.start) start
-  opened = subst (λ h. Opens (origin_of h) start) of_header opens
+-- more behind what is due
+behind : (w now : Option (List ℕ)) (text waiting more : List ℕ) → IsDue w text waiting now
+    → IsDue w (text ++ more) (waiting ++ more) now
+behind w now text waiting more d = record {
+  front = d.front;
+  text_is = ap (λ t. t ++ more) d.text_is ∙ append_assoc d.front waiting more;
+  written = d.written;
+}
 
-  all_told : AllTold script.start start
-  all_told = subst (λ h. AllTold h start) of_header told
-
-  as_script : (part : List Line → List Line) (text : List ℕ) → Plays start (reverse (part lines)) end past text → Plays start (reverse (part script.lines)) end past text
-  as_script part text plays = subst (λ ls. Plays start (reverse (part ls)) end past text) of_lines plays
-
-  working_tell : WorkingLegsTell (origin_of script.start) start.legs
+module _ (script : ScriptValue) (start : Stand) (starts : Starts script start) where
+  pub working_tell : WorkingLegsTell (origin_of script.start) (state_at start).legs
   working_tell l works = elim (leg_cases l script.start.legs) [
-    | inl lt ↦ all_told l lt
-    | inr le ↦ let spare : role_of (origin_of script.start).roles l ≡ Spare = opened.origin.legs l le in cc
+    | inl lt ↦ starts.told l lt
+    | inr le ↦ let spare : role_of (origin_of script.start).roles l ≡ Spare = starts.opens.origin.legs l le in cc
   ]
 
   -- up to each place and from there on it is a run, by the laws of all runs
-  place_of : (before later : List Entry) → Run start (later ++ before) end → AtPlace script.start start before later end
-  place_of before later run =
-      let place = runs_cut start before later end run in
+  place_of : (before later : List Entry) (end : State)
+      → Run (state_at start) (later ++ before) end
+      → AtPlace script.start (state_at start) before later end
+  place_of before later end run =
+      let place = runs_cut (state_at start) before later end run in
       record {
         here = place.state;
         run = place.before;
         rest = place.after;
-        told = λ l lt. legs_tell start before place.state place.before l ∙ all_told l lt;
-        fresh = runs_fresh (origin_of script.start) start before place.state opened place.before;
+        told = λ l lt. legs_tell (state_at start) before place.state place.before l ∙ starts.told l lt;
+        fresh = λ requests. runs_fresh (origin_of script.start) (state_at start) before place.state starts.opens requests place.before;
       }
 
-  playing_of : (part : List Line → List Line) (text : List ℕ) → Plays start (reverse (part script.lines)) end past text → Run start past end → Playing script.start (part script.lines) past end text
-  playing_of part text plays run = record {
-    start = start;
-    opens = opened;
-    told = all_told;
-    plays = plays;
-    run = run;
-    few = few;
-    legal = runs_legal (origin_of script.start) start past end opened working_tell run;
-    places = λ before later is. place_of before later (subst (λ p. Run start p end) is run);
-  }
-
-  pub ran_all : Sofar start lines end past w now → Ran script w now statuses.Done
-  ran_all a = (
-    a.text,
-    (
+  playing_of : (lines : List Line) (end : Stand) (text : List ℕ)
+      → Plays (base_of script.start) start (reverse lines) end text
+      → length end.past ≤ trace_limit → Playing script lines end text
+  playing_of lines end text plays few =
+      let run = run_of (base_of script.start) start starts.none (reverse lines) end text plays in
       record {
-        past = past;
+        start = start;
+        starts = starts;
+        plays = plays;
+        run = run;
+        few = few;
+        legal = λ requests. runs_legal (origin_of script.start) (state_at start) end.past (state_at end) starts.opens working_tell requests run;
+        places = λ before later is. place_of before later (state_at end) (subst (λ p. Run (state_at start) p (state_at end)) is run);
+      }
+
+  module _ (end : Stand) (few : length end.past ≤ trace_limit) (w mid now : Option (List ℕ)) where
+    module _ (waiting : List ℕ)
+        (a : SoFar (base_of script.start) start script.lines end w waiting mid) where
+      pub ran_all : now ≡ with_back mid waiting → Ran script w now statuses.Done
+      ran_all wrote = (
+        a.text,
+        (
+          record { end = end; playing = playing_of script.lines end a.text a.plays few },
+          due_all w mid now a.text waiting a.due wrote,
+        ),
+      )
+
+      whole : Plays (base_of script.start) start (reverse (take (length script.lines) script.lines)) end a.text
+      whole = subst (λ lines. Plays (base_of script.start) start (reverse lines) end a.text) (sym (take-length script.lines)) a.plays
+
+      pub ran_all_cut : WroteFront mid waiting now → Ran script w now statuses.WriteFault
+      ran_all_cut front = (
+        a.text,
+        (
+          first_lines {count = length script.lines} (record {
+            end = end;
+            playing = playing_of (take (length script.lines) script.lines) end a.text whole few;
+          }),
+          due_cut_all w mid now a.text waiting a.due front,
+        ),
+      )
+
+    module _ (waiting : List ℕ)
+        (h : Halted (base_of script.start) start script.lines end w waiting mid) where
+      first : PlaysFirst script h.count h.first.text
+      first = record {
         end = end;
-        playing = playing_of (λ ls. ls) a.text (as_script (λ ls. ls) a.text a.plays) (run_of start (reverse lines) end past a.text a.plays);
-      },
-      a.wrote,
+        playing = playing_of (take h.count script.lines) end h.first.text h.first.plays few;
+      }
+
+      pub ran_some : now ≡ with_back mid waiting → Ran script w now statuses.Memory
+      ran_some wrote = inr (record {
+        count = h.count;
+        few = h.few;
+        text = h.first.text;
+        first = first;
+        wrote = due_all w mid now h.first.text waiting h.first.due wrote;
+      })
+
+      pub ran_some_cut : WroteFront mid waiting now → Ran script w now statuses.WriteFault
+      ran_some_cut front = (h.first.text, (first_lines first, due_cut_all w mid now h.first.text waiting h.first.due front))
+
+    module _ (waiting : List ℕ)
+        (f : RanFull (base_of script.start) start script.lines end w waiting mid) where
+      full : PlaysFull script f.first.text
+      full = record {
+        count = f.count;
+        end = end;
+        playing = playing_of (take f.count script.lines) end f.first.text f.first.plays few;
+        line = f.line;
+        next = f.next;
+        finds = f.finds;
+      }
+
+      due : IsDue w (f.first.text ++ trace_full_line) (waiting ++ trace_full_line) mid
+      due = behind w mid f.first.text waiting trace_full_line f.first.due
+
+      pub ran_full : now ≡ with_back mid (waiting ++ trace_full_line)
+          → Ran script w now statuses.TraceFull
+      ran_full wrote = (f.first.text, (full, due_all w mid now _ _ due wrote))
+
+      pub ran_full_cut : WroteFront mid (waiting ++ trace_full_line) now
+          → Ran script w now statuses.WriteFault
+      ran_full_cut front = (f.first.text ++ trace_full_line, (then_full full, due_cut_all w mid now _ _ due front))
+
+  pub ran_cut : (end : Stand) → length end.past ≤ trace_limit → (w now : Option (List ℕ))
+      → CutShort (base_of script.start) start script.lines end w now
+      → Ran script w now statuses.WriteFault
+  ran_cut end few w now c = (
+    c.text,
+    (
+      first_lines {count = c.count} (record {
+        end = end;
+        playing = playing_of (take c.count script.lines) end c.text c.plays few;
+      }),
+      c.wrote,
     ),
   )
 
-  some_of : (c : CutShort start lines end past w now) → PlaysSome script c.text
-  some_of c = record {
-    count = c.count;
-    past = past;
-    end = end;
-    playing = playing_of (take c.count) c.text (as_script (take c.count) c.text c.plays) (run_of start (reverse (take c.count lines)) end past c.text c.plays);
-  }
+-- what was told of a script that is none
+module _ (bytes : List ℕ) (w now : Option (List ℕ)) (fault : ScriptFault) where
+  pub told_play : (status : Status) → script_of bytes ≡ None → fault ≡ fault_of bytes
+      → FaultTold fault w now status → Judged bytes w now status
+  told_play (statuses.Script told) none is t = rw t.0 (none, is, t.1)
+  told_play statuses.WriteFault none is t = inl (fault, (none, is, t))
+  told_play statuses.Memory none is t = inl t
+  told_play statuses.Done none is t = absurd t
+  told_play statuses.Usage none is t = absurd t
+  told_play statuses.ReadFault none is t = absurd t
+  told_play statuses.TraceFull none is t = absurd t
 
-  pub ran_cut : CutShort start lines end past w now → Ran script w now statuses.WriteFault
-  ran_cut c = (c.text, (some_lines (some_of c), (c.front, c.wrote)))
-
-  pub ran_short : CutShort start lines end past w now → Ran script w now statuses.Memory
-  ran_short c = inr (c.text, (some_of c, (c.front, c.wrote)))
-
-  full_of : (f : RanFull start lines end past w now) → PlaysFull script f.text
-  full_of f = record {
-    count = f.count;
-    past = past;
-    end = end;
-    playing = playing_of (take f.count) f.text (as_script (take f.count) f.text f.plays) (run_of start (reverse (take f.count lines)) end past f.text f.plays);
-    event = f.event;
-    next = subst (λ ls. slice_get ls f.count ≡ Some (event_line f.event)) of_lines f.next;
-    accepted = f.accepted;
-    full = f.full;
-  }
-
-  module _ (later : Option (List ℕ)) (f : RanFull start lines end past w now) where
-    -- the last line was written
-    pub ran_full : later ≡ with_back now trace_full_line → Ran script w later statuses.TraceFull
-    ran_full wrote = (f.text, (full_of f, wrote ∙ ap (λ x. with_back x trace_full_line) f.wrote ∙ with_back-append w f.text trace_full_line))
-
-    -- a front of it was
-    pub ran_full_cut : WroteFront now trace_full_line later → Ran script w later statuses.WriteFault
-    ran_full_cut front = (
-      f.text ++ trace_full_line,
-      (
-        then_full (full_of f),
-        (
-          length f.text + front.0,
-          front.2 ∙ ap (λ x. with_back x (take front.0 trace_full_line)) f.wrote ∙ with_back-append w f.text (take front.0 trace_full_line)
-              ∙ ap (with_back w) (sym (take-append-add f.text trace_full_line front.0)),
-        ),
-      ),
-    )
+  pub told_locks : (status : Status) → lock_script_of bytes ≡ None → fault ≡ lock_fault_of bytes
+      → FaultTold fault w now status → LocksJudged bytes w now status
+  told_locks (statuses.Script told) none is t = rw t.0 (none, is, t.1)
+  told_locks statuses.WriteFault none is t = inl (fault, (none, is, t))
+  told_locks statuses.Memory none is t = inl t
+  told_locks statuses.Done none is t = absurd t
+  told_locks statuses.Usage none is t = absurd t
+  told_locks statuses.ReadFault none is t = absurd t
+  told_locks statuses.TraceFull none is t = absurd t
 
 -- what was judged of the bytes that were taken is the answer
 module _ (o : Outside) (bytes : List ℕ) (reads : Reads o bytes) where
@@ -155,7 +208,10 @@ module _ (o : Outside) (bytes : List ℕ) (reads : Reads o bytes) where
   play_answers_of statuses.WriteFault (inl none) rose = (rose refl, (script_line none.0, (no_script (none_read none.0 none.1.0 none.1.1), none.1.2)))
   play_answers_of statuses.WriteFault (inr script) rose = (rose refl, (script.1.1.0, (of_run (script_read script.0 script.1.0) script.1.1.1.0, script.1.1.1.1)))
   play_answers_of statuses.Memory (inl same) rose = inl same
-  play_answers_of statuses.Memory (inr script) rose = inr (script.0, (script_read script.0 script.1.0, script.1.1))
+  play_answers_of statuses.Memory (inr script) rose = elim script.1.1 [
+    | inl same ↦ inl same
+    | inr some ↦ inr (script.0, (script_read script.0 script.1.0, some))
+  ]
   play_answers_of statuses.Usage judged rose = absurd judged.1.1
   play_answers_of statuses.ReadFault judged rose = absurd judged.1.1
 
@@ -190,7 +246,7 @@ module _ (o : Outside) where
   read_fault_of commands.Locks rose wrote = (rose, wrote)
 
   cut_of : (c : Command) → Rose o.sink_faults o.sink_faults_after → Rose o.source_faults o.source_faults_after → WroteLess o read_fault_line → AnswersTo (Ok c) o statuses.WriteFault
-  cut_of commands.Play rose failed front = (rose, (read_fault_line, (no_input failed, (front.0, front.2))))
+  cut_of commands.Play rose failed front = (rose, (read_fault_line, (no_input failed, front)))
   cut_of commands.Locks rose failed front = (rose, at_input failed front)
 
   memory_of : (c : Command) → o.written_after ≡ o.written → AnswersTo (Ok c) o statuses.Memory
@@ -223,3 +279,13 @@ pub words_fit : (words : List (List ℕ)) → command_of words ≡ Err Memory �
 words_fit [] is = cc
 words_fit (word ∷ []) is = chosen (bytes_eq word (codes "play")) _ _ _ _ is (λ is. cc) (λ is. chosen (bytes_eq word (codes "locks")) _ _ _ _ is (λ is. cc) (λ is. cc))
 words_fit (word ∷ other ∷ words) is = cc
+
+-- what was read is no more than the part
+pub took : (old new : Option (List ℕ)) (bytes : List ℕ) → old ≡ with_front bytes new
+    → IfSome old (λ left. bytes ≡ input_part left) → TookOfPart old new
+took None None bytes is part = refl
+took None (Some x) bytes is part = cc
+took (Some left) new bytes is part = (
+  length bytes,
+  is ∙ ap (λ b. with_front b new) (sym (ap (take (length bytes)) (sym part) ∙ take-length bytes)),
+)

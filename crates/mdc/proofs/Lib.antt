@@ -1,4 +1,4 @@
-mod Answering
-mod Blanks
+mod Within
+mod Header
 mod Played
-mod Traced
+mod Answering

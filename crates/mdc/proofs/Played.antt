@@ -1,101 +1,175 @@
 -- Lines one after another.
-use Rattle.std.proofs.Common.{◌≡◌, inl, inr, ℕ, ◌+◌, ◌<◌, Option, Some, None, List, [], ◌∷◌, ◌++◌, length, get_or, take, refl, sym, ◌∙◌, ap, subst, append_assoc, zero, suc, arith}
-use Rattle.std.specs.Prelude.{reverse}
-use Rattle.std.specs.List.{AllByRecursion}
-use Rattle.std.proofs.lemmas.List.{reverse-append, take_more, append-nil}
-use Rattle.std.proofs.lemmas.Option.{slice_get-get_or}
-use Rattle.std.proofs.Math.Seq.{take-append-add, take-length}
+use Rattle.std.proofs.Common.{◌≡◌, inl, inr, ℕ, ◌+◌, ◌<◌, ◌≤◌, Option, Some, None, Result, Ok, Err, List, [], ◌∷◌, ◌++◌, length, get_or, take, refl, sym, ◌∙◌, ap, subst, append_assoc, arith}
+use Rattle.std.specs.Prelude.{reverse, slice_get, OnOk, OnErr, IfOk}
+use Rattle.std.proofs.lemmas.List.{reverse-append, take_more, append-nil, take-append-le, length-append}
+use Rattle.std.proofs.lemmas.Option.{slice_get_within, get_or_from_slice_get}
+use Rattle.mdc_types.specs.declared.numbers.Sector.{Sector}
 use Rattle.mdc_types.specs.declared.outcomes.Entry.{Entry}
-use Rattle.io_model.specs.State.{State}
-use Rattle.io_model.specs.Run.{Run, entry}
-use Rattle.io_history.proofs.Places.{legs_tell}
+use Rattle.cluster_model.specs.State.{State}
+use Rattle.cluster_model.specs.Run.{Run, entry}
+use Rattle.laws_history.proofs.Places.{legs_tell}
 use Rattle.script_text.specs.declared.script.Line.{Line}
 use Rattle.script_text.specs.declared.script.Line.TheVariants as line_kinds
-use Rattle.script_text.specs.Outside.{with_back}
-use Rattle.mdc.specs.Lines.{Plays, Takes, HaltsAt, FindsFull, Sofar, CutShort, RanFull}
+use Rattle.script_text.specs.Outside.{with_back, WroteFront, IsDue}
+use Rattle.script_text.proofs.DueLaws.{due_start, due_more, due_cut}
+use Rattle.mdc.specs.Call.{printed}
+use Rattle.mdc.specs.Opened.{Stand, state_at}
+use Rattle.mdc.specs.Playing.{Plays, Takes, FindsFull, SoFar, CutShort, Halted, RanFull}
 
--- one piece after another is both at once
-pub with_back-append : (w : Option (List ℕ)) (a b : List ℕ) → with_back (with_back w a) b ≡ with_back w (a ++ b)
-with_back-append None a b = refl
-with_back-append (Some w) a b = ap Some (append_assoc w a b)
+-- Results.
 
-with_back-nil : (w : Option (List ℕ)) → with_back w [] ≡ w
-with_back-nil None = refl
-with_back-nil (Some w) = ap Some (append-nil w)
+pub on_ok : {A E P Q : Type 0} (r : Result A E) → (P → Q) → OnOk r P → OnOk r Q
+on_ok (Ok a) f p = f p
+on_ok (Err e) f p = p
 
-pub begins : (start : State) (w : Option (List ℕ)) → Sofar start [] start [] w w
-begins start w = record { text = []; plays = (refl, refl, refl); wrote = sym (with_back-nil w) }
+pub on_err : {A E P Q : Type 0} (r : Result A E) → (P → Q) → OnErr r P → OnErr r Q
+on_err (Ok a) f p = p
+on_err (Err e) f p = f p
 
-module _ (start : State) (lines : List Line) (i : ℕ) (line : Line) (lt : i < length lines) (is : line ≡ get_or lines i line) where
-  newest : reverse (take (i + 1) lines) ≡ line ∷ reverse (take i lines)
-  newest = ap reverse (take_more lines i line lt ∙ ap (λ x. take i lines ++ x ∷ []) (sym is)) ∙ reverse-append (take i lines) (line ∷ [])
+pub if_ok : {A E : Type 0} {P Q : A → Type 0} (r : Result A E) → ((a : A) → P a → Q a)
+    → IfOk r P → IfOk r Q
+if_ok (Ok a) f p = f a p
+if_ok (Err e) f p = p
 
-  module _ (mid end : State) (before past : List Entry) (w s : Option (List ℕ)) (a : Sofar start (take i lines) mid before w s) where
-    played : (more : List ℕ) → Takes mid before line end past more → Plays start (reverse (take (i + 1) lines)) end past (a.text ++ more)
-    played more t = rw newest (mid, (before, (a.text, (more, (a.plays, t, refl)))))
+-- Texts.
 
-    -- a line more
-    pub next_line : (more : List ℕ) (now : Option (List ℕ)) → Takes mid before line end past more → now ≡ with_back s more → Sofar start (take (i + 1) lines) end past w now
-    next_line more now t wrote = record {
-      text = a.text ++ more;
-      plays = played more t;
-      wrote = wrote ∙ ap (λ x. with_back x more) a.wrote ∙ with_back-append w a.text more;
-    }
+-- a front of a text is one of a longer text
+pub front_more : (before now : Option (List ℕ)) (text more : List ℕ)
+    → WroteFront before text now → WroteFront before (text ++ more) now
+front_more before now text more w = (
+  w.0,
+  omega (arith, w.1, length-append text more),
+  w.2 ∙ ap (with_back before) (sym (take-append-le w.0 text more (omega (arith, w.1)))),
+)
 
-    -- a line more, whose text was cut off
-    pub cut_at : (more : List ℕ) (n : ℕ) (now : Option (List ℕ)) → Takes mid before line end past more → now ≡ with_back s (take n more) → CutShort start lines end past w now
-    cut_at more n now t wrote = record {
-      count = i + 1;
-      text = a.text ++ more;
-      plays = played more t;
-      front = length a.text + n;
-      wrote = wrote ∙ ap (λ x. with_back x (take n more)) a.wrote ∙ with_back-append w a.text (take n more) ∙ ap (with_back w) (sym (take-append-add a.text more n));
-    }
+-- a text and its line feed, in two pieces
+pub line_due : (before now later : Option (List ℕ)) (waiting text rest left : List ℕ)
+    → IsDue before (waiting ++ text) rest now → IsDue now (rest ++ 10 ∷ []) left later
+    → IsDue before (waiting ++ printed text) left later
+line_due before now later waiting text rest left d e =
+    subst (λ t. IsDue before t left later) (append_assoc waiting text (10 ∷ []))
+    (due_more before now later (waiting ++ text) rest (10 ∷ []) left d e)
 
-    nothing_more : (now : Option (List ℕ)) → now ≡ s → now ≡ with_back w (take (length a.text) a.text)
-    nothing_more now same = same ∙ a.wrote ∙ ap (with_back w) (sym (take-length a.text))
+pub line_cut : (before now later : Option (List ℕ)) (waiting text rest : List ℕ)
+    → IsDue before (waiting ++ text) rest now → WroteFront now (rest ++ 10 ∷ []) later
+    → WroteFront before (waiting ++ printed text) later
+line_cut before now later waiting text rest d w =
+    subst (λ t. WroteFront before t later) (append_assoc waiting text (10 ∷ []))
+    (due_cut before now later (waiting ++ text) rest (10 ∷ []) d w)
 
-    -- an event that wasn't done, or whose line isn't written
-    pub halt_at : (now : Option (List ℕ)) → HaltsAt mid before line end past → now ≡ s → CutShort start lines end past w now
-    halt_at now (inl h) same = record { count = i; text = a.text; plays = rw (h.0, h.1) a.plays; front = length a.text; wrote = nothing_more now same }
-    halt_at now (inr h) same = cut_at h.0 0 now h.1 (same ∙ sym (with_back-nil s))
+pub line_front : (before now : Option (List ℕ)) (waiting text : List ℕ)
+    → WroteFront before (waiting ++ text) now → WroteFront before (waiting ++ printed text) now
+line_front before now waiting text w =
+    subst (λ t. WroteFront before t now) (append_assoc waiting text (10 ∷ []))
+    (front_more before now (waiting ++ text) (10 ∷ []) w)
 
-    -- an event that found the trace full
-    pub full_at : (now : Option (List ℕ)) → FindsFull mid before line end past → now ≡ s → RanFull start lines end past w now
-    full_at now f same = record {
-      count = i;
-      text = a.text;
-      plays = rw (f.same, f.entries) a.plays;
-      wrote = same ∙ a.wrote;
-      event = f.event;
-      next = slice_get-get_or lines i line lt ∙ ap Some (sym is ∙ f.is);
-      accepted = rw f.same f.accepted;
-      full = rw f.entries f.full;
-    }
+-- Lines.
 
--- the run that lines lead to
-pub run_of : (start : State) (lines : List Line) (end : State) (past : List Entry) (text : List ℕ) → Plays start lines end past text → Run start past end
-run_of start [] end past text played = rw played.1 played.0
-run_of start ((line_kinds.Event e) ∷ lines) end past text played =
-    let rest = played.1.1.1.1 in
-    let before = run_of start lines played.0 played.1.0 played.1.1.0 rest.0 in
-    elim rest.1 [
-      | inl r ↦ rw (r.entries, r.same) before
-      | inr a ↦ rw a.entries (played.0, before, a.step)
-    ]
-run_of start (line_kinds.Check ∷ lines) end past text played =
-    let rest = played.1.1.1.1 in
-    let before = run_of start lines played.0 played.1.0 played.1.1.0 rest.0 in
-    rw (rest.1.entries, rest.1.same) before
+module _ (base : ℕ → List Sector) (start : Stand) where
+  pub begins : (w : Option (List ℕ)) → SoFar base start [] start w [] w
+  begins w = record { text = []; plays = (refl, refl); due = due_start w }
+
+  module _ (lines : List Line) (i : ℕ) (line : Line) (is : slice_get lines i ≡ Some line) where
+    there : i < length lines
+    there = slice_get_within lines i line is
+
+    newest : reverse (take (i + 1) lines) ≡ line ∷ reverse (take i lines)
+    newest =
+        ap reverse (take_more lines i line there ∙ ap (λ x. take i lines ++ x ∷ []) (get_or_from_slice_get lines i line line is))
+        ∙ reverse-append (take i lines) (line ∷ [])
+
+    module _ (mid : Stand) (w s : Option (List ℕ)) (waiting : List ℕ)
+        (a : SoFar base start (take i lines) mid w waiting s) where
+      played : (end : Stand) (more : List ℕ) → Takes base mid line end more
+          → Plays base start (reverse (take (i + 1) lines)) end (a.text ++ printed more)
+      played end more t = rw newest (record {
+        mid = mid;
+        said = a.text;
+        earlier = a.plays;
+        more = more;
+        takes = t;
+        says = refl;
+      })
+
+      -- a line more
+      pub next_line : (end : Stand) (more rest : List ℕ) (now : Option (List ℕ))
+          → Takes base mid line end more → IsDue s (waiting ++ printed more) rest now
+          → SoFar base start (take (i + 1) lines) end w rest now
+      next_line end more rest now t due = record {
+        text = a.text ++ printed more;
+        plays = played end more t;
+        due = due_more w s now a.text waiting (printed more) rest a.due due;
+      }
+
+      -- a line more, whose text was cut off
+      pub cut_at : (end : Stand) (more : List ℕ) (now : Option (List ℕ))
+          → Takes base mid line end more → WroteFront s (waiting ++ printed more) now
+          → CutShort base start lines end w now
+      cut_at end more now t front = record {
+        count = i + 1;
+        text = a.text ++ printed more;
+        plays = played end more t;
+        wrote = due_cut w s now a.text waiting (printed more) a.due front;
+      }
+
+      -- memory is wanting for the line
+      pub halt_at : (rest : List ℕ) (now : Option (List ℕ)) → now ≡ s → rest ≡ waiting
+          → Halted base start lines mid w rest now
+      halt_at rest now same also = record { count = i; few = there; first = rw (same, also) a }
+
+      -- an event finds the trace full
+      pub full_at : (rest : List ℕ) (now : Option (List ℕ)) → FindsFull mid line → now ≡ s
+          → rest ≡ waiting → RanFull base start lines mid w rest now
+      full_at rest now f same also = record {
+        count = i;
+        first = rw (same, also) a;
+        line = line;
+        next = is;
+        finds = f;
+      }
+
+-- The run that lines lead to.
+
+same_run : (start : State) (mid end : Stand) → end ≡ mid → Run start mid.past (state_at mid)
+    → Run start end.past (state_at end)
+same_run start mid end is run = rw is run
+
+moves_on : (base : ℕ → List Sector) (start : State) (mid end : Stand) (line : Line) (more : List ℕ)
+    → Takes base mid line end more → Run start mid.past (state_at mid)
+    → Run start end.past (state_at end)
+moves_on base start mid end (line_kinds.Event e) more (inl r) run = same_run start mid end r.same run
+moves_on base start mid end (line_kinds.Event e) more (inr a) run =
+    subst (λ past. Run start past (state_at end)) (sym a.entries) (state_at mid, run, a.carries.step)
+moves_on base start mid end line_kinds.Check more t run = same_run start mid end t.0 run
+moves_on base start mid end (line_kinds.View n) more t run = same_run start mid end t.0 run
+moves_on base start mid end (line_kinds.Map n) more t run = same_run start mid end t.0 run
+moves_on base start mid end (line_kinds.Slot l d) more t run = same_run start mid end t.0 run
+moves_on base start mid end line_kinds.Record more t run = same_run start mid end t.0 run
+moves_on base start mid end (line_kinds.Size n) more t run = same_run start mid end t.0 run
+
+pub run_of : (base : ℕ → List Sector) (start : Stand) → start.past ≡ [] → (lines : List Line)
+    (end : Stand) (text : List ℕ) → Plays base start lines end text
+    → Run (state_at start) end.past (state_at end)
+run_of base start none [] end text played = rw (played.0, none) refl
+run_of base start none (line ∷ lines) end text played =
+    moves_on base (state_at start) played.mid end line played.more played.takes
+    (run_of base start none lines played.mid played.said played.earlier)
 
 -- no line changes whether a leg tells its contents
-pub takes_told : (old : State) (past : List Entry) (line : Line) (new : State) (later : List Entry) (text : List ℕ) → Takes old past line new later text → (l : ℕ) → new.legs.told l ≡ old.legs.told l
-takes_told old past (line_kinds.Event e) new later text (inl r) l = ap (λ s. s.legs.told l) r.same
-takes_told old past (line_kinds.Event e) new later text (inr a) l = legs_tell old (entry e a.outcome ∷ []) new (old, refl, a.step) l
-takes_told old past line_kinds.Check new later text t l = ap (λ s. s.legs.told l) t.same
 
--- what holds of each line
-pub all_at : (P : Line → Type 0) (lines : List Line) → AllByRecursion P lines → (i : ℕ) (line : Line) → i < length lines → line ≡ get_or lines i line → P line
-all_at P [] all i line lt is = absurd (omega (arith, lt))
-all_at P (x ∷ lines) all zero line lt is = subst P (sym is) all.0
-all_at P (x ∷ lines) all (suc i) line lt is = all_at P lines all.1 i line (omega (arith, lt)) is
+same_told : (mid end : Stand) → end ≡ mid → (l : ℕ)
+    → (state_at end).legs.told l ≡ (state_at mid).legs.told l
+same_told mid end is l = ap (λ at. (state_at at).legs.told l) is
+
+pub takes_told : (base : ℕ → List Sector) (mid end : Stand) (line : Line) (more : List ℕ)
+    → Takes base mid line end more → (l : ℕ)
+    → (state_at end).legs.told l ≡ (state_at mid).legs.told l
+takes_told base mid end (line_kinds.Event e) more (inl r) l = same_told mid end r.same l
+takes_told base mid end (line_kinds.Event e) more (inr a) l =
+    legs_tell (state_at mid) (entry e a.outcome ∷ []) (state_at end) (state_at mid, refl, a.carries.step) l
+takes_told base mid end line_kinds.Check more t l = same_told mid end t.0 l
+takes_told base mid end (line_kinds.View n) more t l = same_told mid end t.0 l
+takes_told base mid end (line_kinds.Map n) more t l = same_told mid end t.0 l
+takes_told base mid end (line_kinds.Slot k d) more t l = same_told mid end t.0 l
+takes_told base mid end line_kinds.Record more t l = same_told mid end t.0 l
+takes_told base mid end (line_kinds.Size n) more t l = same_told mid end t.0 l

@@ -1,6 +1,7 @@
-pub mod Outside
 pub mod Answers
-pub mod Blank
+pub mod Call
 pub mod Codes
-pub mod Lines
 pub mod LockAnswers
+pub mod Opened
+pub mod Playing
+pub mod QueryAnswers

@@ -6,7 +6,7 @@ use Rattle.script_text.specs.declared.locks.LockLine.{LockLine}
 use Rattle.script_text.specs.Locks.{IsLockScript, lock_script_of, lock_fault_of}
 use Rattle.script_text.specs.Outside.{with_back, WroteFront}
 use Rattle.lock_script.specs.Runs.{RanAll, RanSome, RanCut}
-use Rattle.mdc.specs.Outside.{Outside, Wrote, WroteLess, Reads, read_fault_line, script_line}
+use Rattle.mdc.specs.Call.{Outside, Wrote, WroteLess, Reads, read_fault_line, script_line}
 use Rattle.mdc.specs.declared.status.Status.{Status}
 use Rattle.mdc.specs.declared.status.Status.TheVariants as statuses
 
@@ -53,3 +53,11 @@ LocksJudged bytes written now statuses.WriteFault =
     ⊎ ((script : List LockLine) × (IsLockScript bytes script × RanCut script written now))
 LocksJudged bytes written now statuses.Memory = (now ≡ written) ⊎ ((script : List LockLine) × (IsLockScript bytes script × RanSome script written now))
 LocksJudged bytes written now status = ⊥
+
+-- what was told of a script that is none
+abbrev pub FaultTold : ScriptFault → Option (List ℕ) → Option (List ℕ) → Status → Type 0
+FaultTold fault written now (statuses.Script told) =
+    (told ≡ fault) × (now ≡ with_back written (script_line fault))
+FaultTold fault written now statuses.WriteFault = WroteFront written (script_line fault) now
+FaultTold fault written now statuses.Memory = now ≡ written
+FaultTold fault written now status = ⊥

@@ -6,9 +6,10 @@ ghost use Rattle.std.specs.Prelude.{◌≡◌, drop};
 mod array;
 mod checking;
 mod endings;
-mod lines;
 mod locks;
 mod play;
+mod playing;
+mod queries;
 mod status;
 #[cfg(test)]
 mod tests;

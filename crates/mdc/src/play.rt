@@ -1,40 +1,47 @@
-ghost use Rattle.std.specs.Prelude.{◌≡◌, ◌≤◌, true, false, is_ok, map};
-ghost use Rattle.std.specs.List.{AllByRecursion};
-ghost use Rattle.std.specs.String.{string_bytes};
+ghost use Rattle.std.specs.Prelude.{◌≡◌, ◌≤◌, true, false, is_ok, map, string_bytes, [], ◌++◌};
+ghost use Rattle.std.specs.Prelude.{OnOk, OnErr};
 ghost use Rattle.mdc_types.specs.Bits.{has_bit};
-ghost use Rattle.mdc_types.specs.Faults.{Rose};
-ghost use Rattle.mdc_types.specs.Geometry.{geometry_of};
-ghost use Rattle.script_text.specs.Script.{is_event_line};
-ghost use Rattle.script_text.specs.Outside.{TookOfPart};
+ghost use Rattle.mdc_types.specs.Faults.{Rose, HasCause};
+ghost use Rattle.script_text.specs.Header.{start_sizes, most_nodes};
+ghost use Rattle.script_text.specs.Outside.{with_back, WroteFront, TookOfPart};
 ghost use Rattle.mdc.specs.Answers.{Answers, Judged, Ran};
 
 use crate::array::open_world;
-use crate::endings::script_line;
-use crate::lines::{LinesEnd, play_lines};
+use crate::endings::tell_fault;
 use crate::locks::lock_bytes;
+use crate::playing::{LinesEnd, play_lines};
 use crate::status::Status;
+use mdc_types::Failed;
 use script_text::{
-    Command, InputEnd, Script, ScriptEnd, Sink, Source, WordsEnd, read_input, read_script,
+    Command, InputEnd, Script, ScriptEnd, Sink, Source, TextOut, WordsEnd, read_input, read_script,
     read_words, write_all,
 };
 use std::alloc::Global;
 
 // Plays a script, and says how the lines ended.
-fn run_script<K: Sink>(alloc: Global, script: &Script, sink: &mut K) -> Status
-    requires array { is_ok (geometry_of script.now.start.legs script.now.start.sectors script.now.start.sectors script.now.start.chunk false) ≡ true }
-    requires nodes { script.now.start.nodes ≤ 8 }
-    requires spares { has_bit script.now.start.spares 0 ≡ false }
-    requires events { AllByRecursion (λ line. is_event_line line ≡ true) script.now.lines }
+fn run_script<K: Sink>(alloc: Global, script: &Script, out: &mut TextOut, sink: &mut K) -> Status
+    requires array { is_ok (start_sizes script.now.start) ≡ true }
+    requires some_node { 1 ≤ script.now.start.nodes }
+    requires nodes { script.now.start.nodes ≤ most_nodes script.now.start.second }
+    requires leg_0 { has_bit script.now.start.spares 0 ≡ false }
+    requires empty { out.old ≡ [] }
     ensures ran { Ran script.now (K.written sink.old) (K.written sink.new) result }
     ensures rose { result ≡ Status.WriteFault → Rose (K.faults sink.old) (K.faults sink.new) }
 {
-    match open_world(alloc, script.start()) {
+    match open_world(alloc, script) {
         Err(_) => Status::Memory,
-        Ok(mut world) => match play_lines(alloc, &mut world, script.lines(), sink) {
-            Ok(()) => Status::Done,
+        Ok(mut world) => match play_lines(alloc, &mut world, script, out, sink) {
+            Ok(()) => match out.flush(sink) {
+                Ok(()) => Status::Done,
+                Err(_) => Status::WriteFault,
+            },
             Err(LinesEnd::Write) => Status::WriteFault,
-            Err(LinesEnd::Memory) => Status::Memory,
-            Err(LinesEnd::TraceFull) => match write_all(sink, b"trace-full\n") {
+            // The text of the lines before is written.
+            Err(LinesEnd::Memory) => match out.flush(sink) {
+                Ok(()) => Status::Memory,
+                Err(_) => Status::WriteFault,
+            },
+            Err(LinesEnd::TraceFull) => match last_line(out, sink, b"trace-full\n") {
                 Ok(()) => Status::TraceFull,
                 Err(_) => Status::WriteFault,
             },
@@ -42,9 +49,21 @@ fn run_script<K: Sink>(alloc: Global, script: &Script, sink: &mut K) -> Status
     }
 }
 
-/// What `mdc` does: it reads the words, and the script from the source. With `play` it plays it over
-/// legs in memory, with `locks` it runs it in a lock space, and it writes one line of text for each line
-/// of the script.
+// Writes what waits and a last line.
+fn last_line<K: Sink>(out: &mut TextOut, sink: &mut K, line: &[u8]) -> Result<(), Failed>
+    ensures ok { OnOk result
+        (K.written sink.new ≡ with_back (K.written sink.old) (out.old ++ line.now)) }
+    ensures err { OnErr result
+        (WroteFront (K.written sink.old) (out.old ++ line.now) (K.written sink.new)) }
+    ensures cause { HasCause (λ e. true) (K.faults sink.old) (K.faults sink.new) result }
+{
+    out.put(sink, line)?;
+    out.flush(sink)
+}
+
+/// What `mdc` does: it reads the words, and the script from the source. With `play` it plays it
+/// over legs in memory, with `locks` it runs it in a lock space, and it writes one line of text for
+/// each line of the script.
 ///
 /// It waits for nobody and returns, whatever the bytes are. `Answers` says for each status when it
 /// comes and what was written. Whatever the status, nothing was taken from the source that stands
@@ -93,15 +112,9 @@ fn play_bytes<K: Sink>(alloc: Global, bytes: &[u8], sink: &mut K) -> Status
     ensures judged { Judged bytes.now (K.written sink.old) (K.written sink.new) result }
     ensures rose { result ≡ Status.WriteFault → Rose (K.faults sink.old) (K.faults sink.new) }
 {
-    match read_script(alloc, bytes) {
-        Ok(script) => run_script(alloc, &script, sink),
-        Err(ScriptEnd::Fault(fault)) => match script_line(alloc, &fault) {
-            Ok(line) => match write_all(sink, line.as_str().as_bytes()) {
-                Ok(()) => Status::Script(fault),
-                Err(_) => Status::WriteFault,
-            },
-            Err(_) => Status::Memory,
-        },
-        Err(ScriptEnd::Memory) => Status::Memory,
+    match (read_script(alloc, bytes), TextOut::new(alloc)) {
+        (Ok(script), Ok(mut out)) => run_script(alloc, &script, &mut out, sink),
+        (Err(ScriptEnd::Fault(fault)), _) => tell_fault(alloc, fault, sink),
+        _ => Status::Memory,
     }
 }

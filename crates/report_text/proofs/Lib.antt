@@ -1,1 +1,2 @@
+mod SetLaws
 mod Trimmed

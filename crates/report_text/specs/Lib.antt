@@ -3,6 +3,8 @@ pub mod Fields
 pub mod Lines
 pub mod Locks
 pub mod Outcomes
+pub mod Queries
 pub mod Refusals
+pub mod Sets
 pub mod Values
 pub mod Words

@@ -4,8 +4,9 @@ ghost use Rattle.report_text.specs.Fields.{field_text, line_text};
 ghost use Rattle.report_text.specs.Lines.{spaced, line};
 ghost use Rattle.report_text.specs.Words.{res_word, three_digits};
 
+use crate::sets::{push_numbers, push_roles};
 use crate::value::push_value;
-use mdc_types::{NodeId, Res, Sector};
+use mdc_types::{NodeId, Res, Roles, Sector};
 use std::alloc::{AllocError, Global};
 use std::fmt::Write;
 
@@ -17,6 +18,10 @@ pub enum Field<'a> {
     Lock(Res),
     /// Printed in hexadecimal.
     Value(&'a Sector),
+    /// Printed with commas between them.
+    Numbers(&'a [u32]),
+    /// The roles of the first so many legs, printed with one letter each.
+    RoleLetters(&'a Roles, u8),
 }
 
 /// A line: its name, and the fields after it.
@@ -44,7 +49,8 @@ impl Line<'_> {
     }
 }
 
-fn join(alloc: Global, name: &str, fields: &[Field]) -> Result<String, AllocError>
+/// The text of a line of this name and these fields, without a line feed.
+pub fn join(alloc: Global, name: &str, fields: &[Field]) -> Result<String, AllocError>
     ensures { IfOk result (λ t. string_bytes t ≡ line name.now (map field_text fields.now)) }
 {
     let mut text = String::from_str(alloc, name)?;
@@ -63,6 +69,8 @@ fn push_field(text: &mut String, field: &Field) -> Result<(), AllocError>
         Field::Word(word) => text.push_str(word),
         Field::Lock(res) => push_res(text, *res),
         Field::Value(sector) => push_value(text, &sector.bytes),
+        Field::Numbers(numbers) => push_numbers(text, numbers),
+        Field::RoleLetters(roles, legs) => push_roles(text, roles, *legs),
     }
 }
 

@@ -1,7 +1,13 @@
 use super::*;
 use dlm_modes::Mode;
 use dlm_space::LockError;
-use mdc_types::{Event, Outcome, Part, Range, Refusal, Res, Role, Sector, Wish, Word};
+use leg_failure::View;
+use mdc_types::{
+    Event, Geometry, NodeState, Outcome, Part, Range, Refusal, Res, Role, Roles, Sector, Wish, Word,
+};
+use node_bitmaps::NodeMap;
+use node_member::Record;
+use std::alloc::Global;
 use std::test::Fail;
 
 const OUTCOMES: &[(Outcome, &str)] = &[
@@ -418,5 +424,69 @@ fn events(rt: HostRuntime) -> Result<(), Fail> {
     for (event, want) in EVENTS {
         assert_eq!(rt; event_text(rt.alloc(), event)?.as_str(), *want);
     }
+    Ok(())
+}
+
+// The texts of all queries, parted by `/`.
+fn told(
+    alloc: Global,
+    state: NodeState,
+    view: &View,
+    map: &NodeMap,
+    record: &Record,
+) -> Result<String, Fail> {
+    let texts = [
+        view_text(alloc, 3, state, view, 4)?,
+        size_text(alloc, 3, state, view)?,
+        map_text(alloc, 3, map)?,
+        slot_text(alloc, 1, 3, map)?,
+        record_text(alloc, record)?,
+        legal_text(alloc, 12)?,
+        bad_text(alloc, 7)?,
+    ];
+    let mut all = String::new(alloc);
+    for text in &texts {
+        all.push_str(text.as_str())?;
+        all.push_str("/")?;
+    }
+    Ok(all)
+}
+
+#[test]
+fn queries(rt: HostRuntime) -> Result<(), Fail> {
+    let alloc = rt.alloc();
+    let mut roles = Roles {
+        legs: [Role::Spare; 8],
+    };
+    roles.legs[0] = Role::Working;
+    roles.legs[1] = Role::Rebuilding;
+    let mut view = View::new(roles, 16);
+    let mut map = NodeMap::new(alloc, &Geometry::new(2, 16, 4)?)?;
+    let mut record = Record::new(0, 0, 1);
+    assert_eq!(rt;
+        told(alloc, NodeState::Out, &view, &map, &record)?.as_str(),
+        "view 3 out/size 3 out/map 3 set - need -/slot 1 3 set -/record live - pending - drawn 1 completed 1/legal 12/bad 7/"
+    );
+    assert_eq!(rt;
+        told(alloc, NodeState::Joining, &view, &map, &record)?.as_str(),
+        "view 3 joining/size 3 joining/map 3 set - need -/slot 1 3 set -/record live - pending - drawn 1 completed 1/legal 12/bad 7/"
+    );
+    view.lose(1);
+    roles.legs[2] = Role::Faulty;
+    view.take(&roles, 24);
+    map.set(3);
+    map.set(0);
+    map.page_out(0, 1);
+    map.set(1);
+    map.need(2);
+    record.join(15)?;
+    record.join(2)?;
+    record.join(0)?;
+    record.die(2)?;
+    record.draw();
+    assert_eq!(rt;
+        told(alloc, NodeState::Up, &view, &map, &record)?.as_str(),
+        "view 3 up WRFS lost 1 unacked 1,2/size 3 24 sure 16/map 3 set 0,1,3 need 2/slot 1 3 set 0,3/record live 0,15 pending 2 drawn 2 completed 1/legal 12/bad 7/"
+    );
     Ok(())
 }

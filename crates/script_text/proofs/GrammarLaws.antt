@@ -1,21 +1,30 @@
 -- What each script in the grammar has.
-use Rattle.std.proofs.Common.{◌≡◌, ℕ, ◌+◌, ◌-◌, ◌≤◌, nat_le, Bool, true, false, ◌&&◌, cond, List, [], ◌∷◌, length, Option, Some, None, Result, Ok, Err, refl, subst, arith}
+use Rattle.std.proofs.Common.{◌≡◌, ℕ, ◌+◌, ◌-◌, ◌<◌, ◌≤◌, ◌==◌, nat_le, nat_lt, Bool, true, false, ◌&&◌, ◌||◌, ◌⊎◌, inl, inr, cond, List, [], ◌∷◌, ◌++◌, length, Option, Some, None, Result, Ok, Err, refl, ap, subst, sym, ◌∙◌, arith}
 use Rattle.std.proofs.lemmas.Bool.{false≢true}
 use Rattle.std.proofs.lemmas.Bool.Decides.{nat_tests}
+use Rattle.std.proofs.lemmas.Nat.Bits.{bit_at-zero}
 use Rattle.std.specs.Prelude.{is_ok, ok_or, codes}
 use Rattle.std.specs.List.{AllByRecursion}
 use Rattle.std.specs.Str.{bytes_eq}
-use Rattle.mdc_types.specs.Geometry.{geometry_of}
-use Rattle.mdc_types.specs.declared.events.Event.{Event}
+use Rattle.mdc_types.specs.Bits.{has_bit, with_bit}
+use Rattle.mdc_types.specs.Geometry.{Sizes}
+use Rattle.mdc_types.specs.declared.geometry.GeomError.{GeomError}
+use Rattle.mdc_types.specs.declared.geometry.GeomError.TheVariants.{Legs}
+use Rattle.mdc_types.proofs.BitsLaws.{has_bit-with_bit}
 use Rattle.script_text.specs.declared.script.Start.{Start}
-use Rattle.script_text.specs.declared.script.Line.{Line}
-use Rattle.script_text.specs.Lines.{lines_of, script_limit, two, three, four}
+use Rattle.script_text.specs.declared.script.FaultLine.{FaultLine}
+use Rattle.script_text.specs.declared.header.SetupLine.{SetupLine}
+use Rattle.script_text.specs.declared.header.SetupLine.TheVariants.{Room, Spare, Fault}
 use Rattle.script_text.specs.declared.faults.FaultKind.{FaultKind}
 use Rattle.script_text.specs.declared.faults.FaultKind.TheVariants as kinds
 use Rattle.script_text.specs.declared.faults.ScriptFault.{ScriptFault}
+use Rattle.script_text.specs.declared.script.Line.{Line}
 use Rattle.script_text.specs.Steps.{guarded}
 use Rattle.script_text.specs.Judging.{◌>>=◌, at_line}
-use Rattle.script_text.specs.Script.{ScriptValue, number_word, byte_word, value_word, is_start, warm_with, start_with, warm_start, start_of, is_line_event, is_event_line, ask_write, out_write, end_write, ask_read, in_read, event_of, event_line, check_line, line_of, said_by, end_of, with_lines, line_then, body_of, header_then, script_in, judged}
+use Rattle.script_text.specs.Lines.{lines_of, script_limit, three, four, third}
+use Rattle.script_text.specs.Arguments.{number_word, one_number, fitting, alone}
+use Rattle.script_text.specs.Header.{Setup, start_sizes, most_nodes, is_start, new_start, start_with, start_line, start_of, is_setup, with_room, room_line, spare_line, left_of, fits_left, fault_line, setup_line, with_line}
+use Rattle.script_text.specs.Script.{ScriptValue, line_of, said_by, line_then, body_of, with_lines, setup_then, setup_in, new_setup, header_then, script_in, judged}
 
 pub bind_ok : {A B E : Type 0} (r : Result A E) (f : A → Result B E) (y : B) → (r >>= f) ≡ Ok y → (x : A) × (r ≡ Ok x) × (f x ≡ Ok y)
 bind_ok (Err e) f y is = cc
@@ -30,7 +39,7 @@ ok_or_some None e x is = cc
 ok_or_some (Some y) e x is = cc
 
 -- what is found of a line without a fault
-at_line_ok : {A : Type 0} (n : ℕ) (r : Result A FaultKind) (x : A) → at_line n r ≡ Ok x → r ≡ Ok x
+pub at_line_ok : {A : Type 0} (n : ℕ) (r : Result A FaultKind) (x : A) → at_line n r ≡ Ok x → r ≡ Ok x
 at_line_ok n (Err kind) x is = cc
 at_line_ok n (Ok y) x is = cc
 
@@ -40,97 +49,219 @@ ok_with E x = Ok x
 pub ok_same : {A E : Type 0} {x y : A} → ok_with E x ≡ ok_with E y → x ≡ y
 ok_same is = cc
 
-pub record IsHeader (s : Start) : Type 0 where
-  pub start : is_start s ≡ true
-  pub spares : s.spares ≡ 0
-
-warm_start_is : (args : List (List ℕ)) (s : Start) → warm_start args ≡ Ok s → IsHeader s
-warm_start_is args s is =
-    let words = bind_ok (ok_or (four args) kinds.Count) _ s is in
-    let legs = bind_ok (number_word words.0.0) _ s words.2 in
-    let sectors = bind_ok (number_word words.0.1) _ s legs.2 in
-    let chunk = bind_ok (number_word words.0.2) _ s sectors.2 in
-    let nodes = bind_ok (number_word words.0.3) _ s chunk.2 in
-    let start = ok_or_some (start_with legs.0 sectors.0 chunk.0 nodes.0) kinds.Range s nodes.2 in
-    let made = guarded_some (is_start (warm_with legs.0 sectors.0 chunk.0 nodes.0)) (warm_with legs.0 sectors.0 chunk.0 nodes.0) s start in
-    subst IsHeader made.1 (record { start = made.0; spares = refl })
-
--- the array of a header
-pub start_is : (word : List ℕ) (args : List (List ℕ)) (s : Start) → start_of word args ≡ Ok s → IsHeader s
-start_is word args s is =
-    elim (bytes_eq word (codes "warm")) as (λ b. cond b (warm_start args) (Err kinds.NoArray) ≡ Ok s → IsHeader s) [
-      | true ↦ λ is. warm_start_is args s is
-      | false ↦ λ is. cc
-    ] is
-
--- The lines.
-
-ask_write_is : (args : List (List ℕ)) (e : Event) → ask_write args ≡ Ok e → is_line_event e ≡ true
-ask_write_is args e is =
-    let words = bind_ok (ok_or (three args) kinds.Count) _ e is in
-    let node = bind_ok (byte_word words.0.0) _ e words.2 in
-    let sector = bind_ok (number_word words.0.1) _ e node.2 in
-    let value = bind_ok (value_word words.0.2) _ e sector.2 in
-    subst (λ x. is_line_event x ≡ true) (ok_same value.2) refl
-
-out_write_is : (args : List (List ℕ)) (e : Event) → out_write args ≡ Ok e → is_line_event e ≡ true
-out_write_is args e is =
-    let words = bind_ok (ok_or (three args) kinds.Count) _ e is in
-    let node = bind_ok (byte_word words.0.0) _ e words.2 in
-    let write = bind_ok (number_word words.0.1) _ e node.2 in
-    let leg = bind_ok (byte_word words.0.2) _ e write.2 in
-    subst (λ x. is_line_event x ≡ true) (ok_same leg.2) refl
-
-end_write_is : (args : List (List ℕ)) (e : Event) → end_write args ≡ Ok e → is_line_event e ≡ true
-end_write_is args e is =
-    let words = bind_ok (ok_or (two args) kinds.Count) _ e is in
-    let node = bind_ok (byte_word words.0.0) _ e words.2 in
-    let write = bind_ok (number_word words.0.1) _ e node.2 in
-    subst (λ x. is_line_event x ≡ true) (ok_same write.2) refl
-
-ask_read_is : (args : List (List ℕ)) (e : Event) → ask_read args ≡ Ok e → is_line_event e ≡ true
-ask_read_is args e is =
-    let words = bind_ok (ok_or (two args) kinds.Count) _ e is in
-    let node = bind_ok (byte_word words.0.0) _ e words.2 in
-    let sector = bind_ok (number_word words.0.1) _ e node.2 in
-    subst (λ x. is_line_event x ≡ true) (ok_same sector.2) refl
-
-in_read_is : (args : List (List ℕ)) (e : Event) → in_read args ≡ Ok e → is_line_event e ≡ true
-in_read_is args e is =
-    let words = bind_ok (ok_or (two args) kinds.Count) _ e is in
-    let node = bind_ok (byte_word words.0.0) _ e words.2 in
-    let read = bind_ok (number_word words.0.1) _ e node.2 in
-    subst (λ x. is_line_event x ≡ true) (ok_same read.2) refl
+both : (a b : Bool) → (a && b) ≡ true → (a ≡ true) × (b ≡ true)
+both true b is = (refl, is)
+both false b is = absurd (false≢true is)
 
 -- the first word that fits
 pub chosen : {A E : Type 0} (b : Bool) (x y z : Result A E) (P : Type 0) → cond b x y ≡ z → (x ≡ z → P) → (y ≡ z → P) → P
 chosen true x y z P is f g = f is
 chosen false x y z P is f g = g is
 
-event_is : (word : List ℕ) (args : List (List ℕ)) (e : Event) → event_of word args ≡ Ok e → is_line_event e ≡ true
-event_is word args e is =
-    chosen (bytes_eq word (codes "w")) _ _ (Ok e) _ is (ask_write_is args e)
-    (λ is. chosen (bytes_eq word (codes "out")) _ _ (Ok e) _ is (out_write_is args e)
-    (λ is. chosen (bytes_eq word (codes "ok")) _ _ (Ok e) _ is (end_write_is args e)
-    (λ is. chosen (bytes_eq word (codes "r")) _ _ (Ok e) _ is (ask_read_is args e)
-    (λ is. chosen (bytes_eq word (codes "in")) _ _ (Ok e) _ is (in_read_is args e)
-    (λ is. cc)))))
+-- The setup.
 
-event_line_is : (word : List ℕ) (args : List (List ℕ)) (line : Line) → event_line word args ≡ Ok line → is_event_line line ≡ true
-event_line_is word args line is =
-    let event = bind_ok (event_of word args) _ line is in
-    subst (λ x. is_event_line x ≡ true) (ok_same event.2) (event_is word args event.0 event.1)
+abbrev AreOfLegs : Start → List FaultLine → Type 0
+AreOfLegs s faults = AllByRecursion (λ f. f.leg < s.legs) faults
 
-check_line_is : (args : List (List ℕ)) (line : Line) → check_line args ≡ Ok line → is_event_line line ≡ true
-check_line_is [] line is = subst (λ x. is_event_line x ≡ true) (ok_same is) refl
-check_line_is (arg ∷ args) line is = cc
+pub record IsSetup (s : Setup) : Type 0 where
+  pub array : is_ok (start_sizes s.start) ≡ true
+  pub some_node : 1 ≤ s.start.nodes
+  pub nodes : s.start.nodes ≤ most_nodes s.start.second
+  pub leg_0 : has_bit s.start.spares 0 ≡ false
+  pub spares : (l : ℕ) → has_bit s.start.spares l ≡ true → l < s.start.legs
+  pub faults : AreOfLegs s.start s.faults
 
-line_is : (word : List ℕ) (args : List (List ℕ)) (line : Line) → line_of word args ≡ Ok line → is_event_line line ≡ true
-line_is word args line is = chosen (bytes_eq word (codes "check")) _ _ (Ok line) _ is (check_line_is args line) (event_line_is word args line)
+none_in_zero : (l : ℕ) → has_bit 0 l ≡ false
+none_in_zero l = ap (λ b. b == 1) (bit_at-zero l)
+
+new_is : (s : Start) → s.spares ≡ 0 → is_start s ≡ true → IsSetup (new_setup s)
+new_is s none is =
+    let nodes = both (nat_le 1 s.nodes && nat_le s.nodes (most_nodes s.second)) (is_ok (start_sizes s)) is in
+    let few = both (nat_le 1 s.nodes) (nat_le s.nodes (most_nodes s.second)) nodes.0 in
+    record {
+      array = nodes.1;
+      some_node = grind (arith, nat_tests, few.0);
+      nodes = grind (arith, nat_tests, few.1);
+      leg_0 = ap (λ set. has_bit set 0) none ∙ none_in_zero 0;
+      spares = λ l has. absurd (false≢true (sym (ap (λ set. has_bit set l) none ∙ none_in_zero l) ∙ has));
+      faults = tt;
+    }
+
+start_line_is : (warm second : Bool) (args : List (List ℕ)) (s : Start) → start_line warm second args ≡ Ok s → IsSetup (new_setup s)
+start_line_is warm second args s is =
+    let words = bind_ok (ok_or (four args) kinds.Count) _ s is in
+    let legs = bind_ok (number_word words.0.0) _ s words.2 in
+    let sectors = bind_ok (number_word words.0.1) _ s legs.2 in
+    let chunk = bind_ok (number_word words.0.2) _ s sectors.2 in
+    let nodes = bind_ok (number_word words.0.3) _ s chunk.2 in
+    let start = ok_or_some (start_with warm second legs.0 sectors.0 chunk.0 nodes.0) kinds.Range s nodes.2 in
+    let made = guarded_some (is_start (new_start warm second legs.0 sectors.0 chunk.0 nodes.0)) (new_start warm second legs.0 sectors.0 chunk.0 nodes.0) s start in
+    subst (λ t. IsSetup (new_setup t)) made.1 (new_is (new_start warm second legs.0 sectors.0 chunk.0 nodes.0) refl made.0)
+
+-- the array of a header
+pub start_is : (word : List ℕ) (args : List (List ℕ)) (s : Start) → start_of word args ≡ Ok s → IsSetup (new_setup s)
+start_is word args s is =
+    chosen (bytes_eq word (codes "warm")) _ _ (Ok s) _ is (start_line_is true false args s)
+    (λ is. chosen (bytes_eq word (codes "array")) _ _ (Ok s) _ is (start_line_is false false args s)
+    (λ is. chosen (bytes_eq word (codes "warm2")) _ _ (Ok s) _ is (start_line_is true true args s)
+    (λ is. chosen (bytes_eq word (codes "array2")) _ _ (Ok s) _ is (start_line_is false true args s)
+    (λ is. cc))))
+
+faults_push : (s : Start) (faults : List FaultLine) (f : FaultLine) → AreOfLegs s faults → f.leg < s.legs → AreOfLegs s (faults ++ f ∷ [])
+faults_push s [] f are lt = (lt, tt)
+faults_push s (g ∷ faults) f are lt = (are.0, faults_push s faults f are.1 lt)
+
+room_is : (s : Setup) (args : List (List ℕ)) (line : SetupLine) → IsSetup s → room_line s.start args ≡ Ok line → IsSetup (with_line s line)
+room_is s args line i is =
+    let room = bind_ok (one_number args) _ line is in
+    let found = ok_or_some (guarded (is_ok (start_sizes (with_room s.start room.0))) (Room room.0)) kinds.Range line room.2 in
+    let made = guarded_some (is_ok (start_sizes (with_room s.start room.0))) (Room room.0) line found in
+    subst (λ l. IsSetup (with_line s l)) {x = Room room.0} made.1
+    (record { array = made.0; some_node = i.some_node; nodes = i.nodes; leg_0 = i.leg_0; spares = i.spares; faults = i.faults })
+
+spare_bits : (set k j : ℕ) → has_bit (with_bit set k) j ≡ true → (j ≡ k) ⊎ (has_bit set j ≡ true)
+spare_bits set k j has = grind (arith, nat_tests, has_bit-with_bit set k j)
+
+spare_is : (s : Setup) (args : List (List ℕ)) (line : SetupLine) → IsSetup s → spare_line s.start args ≡ Ok line → IsSetup (with_line s line)
+spare_is s args line i is =
+    let leg = bind_ok (one_number args) _ line is in
+    let l = leg.0 in
+    let found = ok_or_some (guarded (nat_lt 0 l && nat_lt l s.start.legs) (Spare l)) kinds.Range line leg.2 in
+    let made = guarded_some (nat_lt 0 l && nat_lt l s.start.legs) (Spare l) line found in
+    let tests = both (nat_lt 0 l) (nat_lt l s.start.legs) made.0 in
+    let some : 0 < l = grind (arith, nat_tests, tests.0) in
+    let below : l < s.start.legs = grind (arith, nat_tests, tests.1) in
+    subst (λ l. IsSetup (with_line s l)) {x = Spare l} made.1
+    (record {
+      array = i.array;
+      some_node = i.some_node;
+      nodes = i.nodes;
+      leg_0 = grind (arith, nat_tests, has_bit-with_bit s.start.spares l 0, i.leg_0);
+      spares = λ k has. elim (spare_bits s.start.spares l k has) [
+        | inl same ↦ omega (arith, same, below)
+        | inr before ↦ i.spares k before
+      ];
+      faults = i.faults;
+    })
+
+fault_is : (s : Setup) (args : List (List ℕ)) (line : SetupLine) → IsSetup s → fault_line s.start args ≡ Ok line → IsSetup (with_line s line)
+fault_is s args line i is =
+    let fits = bind_ok (fitting (fits_left (third args))) _ line is in
+    let words = bind_ok (ok_or (three args) kinds.Count) _ line fits.2 in
+    let leg = bind_ok (number_word words.0.0) _ line words.2 in
+    let transfer = bind_ok (number_word words.0.1) _ line leg.2 in
+    let new = bind_ok (ok_or (left_of words.0.2) kinds.Word) _ line transfer.2 in
+    let fault : FaultLine = record { leg = leg.0; transfer = transfer.0; new = new.0 } in
+    let found = ok_or_some (guarded (nat_lt leg.0 s.start.legs) (Fault fault)) kinds.Range line new.2 in
+    let made = guarded_some (nat_lt leg.0 s.start.legs) (Fault fault) line found in
+    subst (λ l. IsSetup (with_line s l)) {x = Fault fault} made.1
+    (record {
+      array = i.array;
+      some_node = i.some_node;
+      nodes = i.nodes;
+      leg_0 = i.leg_0;
+      spares = i.spares;
+      faults = faults_push s.start s.faults fault i.faults (grind (arith, nat_tests, made.0));
+    })
+
+not_spare_room : {room l : ℕ} → Room room ≡ Spare l → ⊥
+not_spare_room is = cc
+
+not_spare_fault : {f : FaultLine} {l : ℕ} → Fault f ≡ Spare l → ⊥
+not_spare_fault is = cc
+
+pub line_keeps : (s : Setup) (word : List ℕ) (args : List (List ℕ)) (line : SetupLine) → IsSetup s → setup_line s.start word args ≡ Ok line → IsSetup (with_line s line)
+line_keeps s word args line i is =
+    chosen (bytes_eq word (codes "room")) _ _ (Ok line) _ is (room_is s args line i)
+    (λ is. chosen (bytes_eq word (codes "spare")) _ _ (Ok line) _ is (spare_is s args line i) (fault_is s args line i))
+
+-- a spare is a leg
+pub spare_leg : (s : Start) (word : List ℕ) (args : List (List ℕ)) (l : ℕ) → setup_line s word args ≡ Ok (Spare l) → l < s.legs
+spare_leg s word args l is =
+    chosen (bytes_eq word (codes "room")) _ _ (Ok (Spare l)) _ is
+    (λ is.
+    let room = bind_ok (one_number args) _ (Spare l) is in
+    let found = ok_or_some (guarded (is_ok (start_sizes (with_room s room.0))) (Room room.0)) kinds.Range (Spare l) room.2 in
+    let made = guarded_some (is_ok (start_sizes (with_room s room.0))) (Room room.0) (Spare l) found in
+    absurd (not_spare_room {room = room.0} {l = l} made.1))
+    (λ is. chosen (bytes_eq word (codes "spare")) _ _ (Ok (Spare l)) _ is
+    (λ is.
+    let leg = bind_ok (one_number args) _ (Spare l) is in
+    let found = ok_or_some (guarded (nat_lt 0 leg.0 && nat_lt leg.0 s.legs) (Spare leg.0)) kinds.Range (Spare l) leg.2 in
+    let made = guarded_some (nat_lt 0 leg.0 && nat_lt leg.0 s.legs) (Spare leg.0) (Spare l) found in
+    let tests = both (nat_lt 0 leg.0) (nat_lt leg.0 s.legs) made.0 in
+    let same : leg.0 ≡ l = cc in
+    grind (arith, nat_tests, tests.1))
+    (λ is.
+    let fits = bind_ok (fitting (fits_left (third args))) _ (Spare l) is in
+    let words = bind_ok (ok_or (three args) kinds.Count) _ (Spare l) fits.2 in
+    let leg = bind_ok (number_word words.0.0) _ (Spare l) words.2 in
+    let transfer = bind_ok (number_word words.0.1) _ (Spare l) leg.2 in
+    let new = bind_ok (ok_or (left_of words.0.2) kinds.Word) _ (Spare l) transfer.2 in
+    let fault : FaultLine = record { leg = leg.0; transfer = transfer.0; new = new.0 } in
+    let found = ok_or_some (guarded (nat_lt leg.0 s.legs) (Fault fault)) kinds.Range (Spare l) new.2 in
+    let made = guarded_some (nat_lt leg.0 s.legs) (Fault fault) (Spare l) found in
+    absurd (not_spare_fault {f = fault} {l = l} made.1)))
+
+-- an array has at most eight legs
+few_legs : (low high : Bool) (rest : Result Sizes GeomError) → is_ok (cond (low || high) (Err Legs) rest) ≡ true → high ≡ false
+few_legs true high rest is = absurd (false≢true is)
+few_legs false true rest is = absurd (false≢true is)
+few_legs false false rest is = refl
+
+pub array_legs : (s : Start) → is_ok (start_sizes s) ≡ true → s.legs ≤ 8
+array_legs s is = grind (arith, nat_tests, few_legs (nat_lt s.legs 2) (nat_lt 8 s.legs) _ is)
+
+pub start_legs : (word : List ℕ) (args : List (List ℕ)) (s : Start) → start_of word args ≡ Ok s → s.legs ≤ 8
+start_legs word args s is = array_legs s (start_is word args s is).array
+
+-- The whole.
+
+abbrev setup_of : ScriptValue → Setup
+setup_of v = record { start = v.start; faults = v.faults }
+
+lines_keep : (s : Setup) (lines : Result (List Line) ScriptFault) (v : ScriptValue) → IsSetup s → with_lines s lines ≡ Ok v → IsSetup (setup_of v)
+lines_keep s lines v i is = let ls = bind_ok lines _ v is in subst (λ w. IsSetup (setup_of w)) (ok_same ls.2) i
+
+setup_then_keeps : (first : Bool) (s : Setup) (n : ℕ) (said : Result (List (List ℕ)) FaultKind) (later : Bool → Setup → Result ScriptValue ScriptFault) (body : Result (List Line) ScriptFault) (v : ScriptValue)
+    → ((f : Bool) (t : Setup) → IsSetup t → later f t ≡ Ok v → IsSetup (setup_of v)) → IsSetup s → setup_then first s n said later (with_lines s body) ≡ Ok v → IsSetup (setup_of v)
+setup_then_keeps first s n (Err kind) later body v f i is = lines_keep s body v i is
+setup_then_keeps first s n (Ok []) later body v f i is = f first s i is
+setup_then_keeps first s n (Ok (word ∷ args)) later body v f i is =
+    chosen (is_setup first word) _ _ (Ok v) _ is
+    (λ is.
+    let line = bind_ok (at_line n (setup_line s.start word args)) _ v is in
+    f false (with_line s line.0) (line_keeps s word args line.0 i (at_line_ok n (setup_line s.start word args) line.0 line.1)) line.2)
+    (lines_keep s body v i)
+
+setup_in_keeps : (first : Bool) (s : Setup) (n room : ℕ) (lines : List (List ℕ)) (v : ScriptValue) → IsSetup s → setup_in first s n room lines ≡ Ok v → IsSetup (setup_of v)
+setup_in_keeps first s n room [] v i is = lines_keep s (body_of line_of n room []) v i is
+setup_in_keeps first s n room (line ∷ lines) v i is =
+    setup_then_keeps first s n (said_by room line) (λ f t. setup_in f t (n + 1) (room - length line) lines) (body_of line_of n room (line ∷ lines)) v
+    (λ f t j e. setup_in_keeps f t (n + 1) (room - length line) lines v j e) i is
+
+header_then_is : (n : ℕ) (said : Result (List (List ℕ)) FaultKind) (later : Result ScriptValue ScriptFault) (after : Start → Result ScriptValue ScriptFault) (v : ScriptValue)
+    → (later ≡ Ok v → IsSetup (setup_of v)) → ((s : Start) → IsSetup (new_setup s) → after s ≡ Ok v → IsSetup (setup_of v)) → header_then n said later after ≡ Ok v → IsSetup (setup_of v)
+header_then_is n (Err kind) later after v f g is = cc
+header_then_is n (Ok []) later after v f g is = f is
+header_then_is n (Ok (word ∷ args)) later after v f g is =
+    let start = bind_ok (at_line n (start_of word args)) after v is in
+    g start.0 (start_is word args start.0 (at_line_ok n (start_of word args) start.0 start.1)) start.2
+
+script_in_is : (n room : ℕ) (lines : List (List ℕ)) (v : ScriptValue) → script_in n room lines ≡ Ok v → IsSetup (setup_of v)
+script_in_is n room [] v is = cc
+script_in_is n room (line ∷ lines) v is =
+    header_then_is n (said_by room line) (script_in (n + 1) (room - length line) lines) (λ start. setup_in true (new_setup start) (n + 1) (room - length line) lines) v
+    (script_in_is (n + 1) (room - length line) lines v)
+    (λ s i e. setup_in_keeps true (new_setup s) (n + 1) (room - length line) lines v i e) is
+
+-- each script is an array, with spares and failing transfers of its legs
+pub script_is : (bytes : List ℕ) (v : ScriptValue) → judged bytes ≡ Ok v → IsSetup (record { start = v.start; faults = v.faults })
+script_is bytes v is = script_in_is 1 script_limit (lines_of bytes) v is
 
 -- What holds of each line that is read.
 module _ {L : Type 0} (of : List ℕ → List (List ℕ) → Result L FaultKind) (P : L → Type 0) (each : (word : List ℕ) (args : List (List ℕ)) (line : L) → of word args ≡ Ok line → P line) where
-  end_are : (n : ℕ) (args : List (List ℕ)) (lines : List L) → at_line n (end_of args) ≡ Ok lines → AllByRecursion P lines
+  end_are : (n : ℕ) (args : List (List ℕ)) (lines : List L) → at_line n (alone [] args) ≡ Ok lines → AllByRecursion P lines
   end_are n [] lines is = subst (AllByRecursion P) (ok_same is) tt
   end_are n (arg ∷ args) lines is = cc
 
@@ -150,52 +281,3 @@ module _ {L : Type 0} (of : List ℕ → List (List ℕ) → Result L FaultKind)
   body_are n room [] ls is = cc
   body_are n room (line ∷ lines) ls is =
       line_then_are n (said_by room line) (body_of of (n + 1) (room - length line) lines) ls (body_are (n + 1) (room - length line) lines) is
-
-abbrev AreEvents : List Line → Type 0
-AreEvents lines = AllByRecursion (λ line. is_event_line line ≡ true) lines
-
--- The whole.
-
-pub record IsWhole (s : ScriptValue) : Type 0 where
-  pub start : IsHeader s.start
-  pub lines : AreEvents s.lines
-
-whole : (start : Result Start ScriptFault) (body : Result (List Line) ScriptFault) (s : ScriptValue) → ((t : Start) → start ≡ Ok t → IsHeader t)
-    → ((ls : List Line) → body ≡ Ok ls → AreEvents ls) → with_lines start body ≡ Ok s → IsWhole s
-whole start body s f g is =
-    let first = bind_ok start _ s is in
-    let others = bind_ok body _ s first.2 in
-    subst IsWhole (ok_same others.2) (record { start = f first.0 first.1; lines = g others.0 others.1 })
-
-header_then_is : (n : ℕ) (said : Result (List (List ℕ)) FaultKind) (later : Result ScriptValue ScriptFault) (body : Result (List Line) ScriptFault) (s : ScriptValue)
-    → ((t : ScriptValue) → later ≡ Ok t → IsWhole t) → ((ls : List Line) → body ≡ Ok ls → AreEvents ls) → header_then n said later body ≡ Ok s → IsWhole s
-header_then_is n (Err kind) later body s f g is = cc
-header_then_is n (Ok []) later body s f g is = f s is
-header_then_is n (Ok (word ∷ args)) later body s f g is =
-    whole (at_line n (start_of word args)) body s (λ t is. start_is word args t (at_line_ok n (start_of word args) t is)) g is
-
-script_in_is : (n room : ℕ) (lines : List (List ℕ)) (s : ScriptValue) → script_in n room lines ≡ Ok s → IsWhole s
-script_in_is n room [] s is = cc
-script_in_is n room (line ∷ lines) s is =
-    header_then_is n (said_by room line) (script_in (n + 1) (room - length line) lines) (body_of line_of (n + 1) (room - length line) lines) s
-    (script_in_is (n + 1) (room - length line) lines) (body_are line_of (λ line. is_event_line line ≡ true) line_is (n + 1) (room - length line) lines) is
-
--- each script is an array, and lines of its events
-pub script_is : (bytes : List ℕ) (s : ScriptValue) → judged bytes ≡ Ok s → IsWhole s
-script_is bytes s is = script_in_is 1 script_limit (lines_of bytes) s is
-
-both : (a b : Bool) → (a && b) ≡ true → (a ≡ true) × (b ≡ true)
-both true b is = (refl, is)
-both false b is = absurd (false≢true is)
-
-some_nodes : (s : Start) → is_start s ≡ true → (nat_le 1 s.nodes ≡ true) × (nat_le s.nodes 8 ≡ true)
-some_nodes s is = both (nat_le 1 s.nodes) (nat_le s.nodes 8) (both (nat_le 1 s.nodes && nat_le s.nodes 8) _ is).0
-
-pub start_array : (s : Start) → is_start s ≡ true → is_ok (geometry_of s.legs s.sectors s.sectors s.chunk false) ≡ true
-start_array s is = (both (nat_le 1 s.nodes && nat_le s.nodes 8) _ is).1
-
-pub start_some_node : (s : Start) → is_start s ≡ true → 1 ≤ s.nodes
-start_some_node s is = grind (arith, nat_tests, (some_nodes s is).0)
-
-pub start_nodes : (s : Start) → is_start s ≡ true → s.nodes ≤ 8
-start_nodes s is = grind (arith, nat_tests, (some_nodes s is).1)

@@ -1,8 +1,10 @@
 pub mod OutsideLaws
+pub mod DueLaws
 pub mod LinesLaws
 pub mod NumbersLaws
 pub mod HexLaws
 pub mod ReadingLaws
+pub mod PlacesLaws
 pub mod GrammarLaws
 mod LockLaws
 pub mod InputLaws

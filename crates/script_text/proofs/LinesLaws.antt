@@ -1,6 +1,6 @@
 -- Where the first line ends.
-use Rattle.std.proofs.Common.{◌≡◌, ℕ, suc, ◌+◌, ◌-◌, ◌<◌, ◌≤◌, ◌==◌, nat_lt, true, false, not, cond, List, [], ◌∷◌, length, take, drop, Option, Some, None, refl, ap, subst, sym, arith}
-use Rattle.std.proofs.lemmas.List.{take_all, drop_all, take_rest, length-take, length-drop}
+use Rattle.std.proofs.Common.{◌≡◌, ℕ, suc, ◌+◌, ◌<◌, ◌≤◌, ◌==◌, nat_lt, true, false, not, cond, List, [], ◌∷◌, length, take, drop, Option, Some, None, refl, ap, subst, sym, arith}
+use Rattle.std.proofs.lemmas.List.{take_all, drop_all, length-take}
 use Rattle.std.proofs.lemmas.List.Sums.{prefix_len-le-length}
 use Rattle.std.proofs.lemmas.Bool.Decides.{nat_tests}
 use Rattle.std.specs.List.{onto_first, position_or_len, position}
@@ -55,22 +55,24 @@ lines_only (b ∷ c ∷ bytes) some is =
       | false ↦ λ is. ap (onto_first b) (lines_only (c ∷ bytes) (omega arith) (omega (arith, is)))
     ] is
 
-pub begins_first : (bytes : List ℕ) → feed bytes < length bytes → BeginsWithLine bytes (take (feed bytes) bytes) (drop (feed bytes + 1) bytes)
+pub begins_first : (bytes : List ℕ) → feed bytes < length bytes → BeginsWithLine bytes (take (feed bytes) bytes) (feed bytes + 1)
 begins_first bytes lt = record {
   line = take (feed bytes + 1) bytes;
   lines = lines_first bytes lt;
   text_is = text_first bytes lt;
-  size = omega (arith, length-take (feed bytes + 1) bytes, length-drop (feed bytes + 1) bytes);
-  some = omega (arith, length-take (feed bytes + 1) bytes);
+  size_is = omega (arith, length-take (feed bytes + 1) bytes);
+  some = omega arith;
+  within = omega arith;
 }
 
-pub begins_only : (bytes : List ℕ) → 0 < length bytes → feed bytes ≡ length bytes → BeginsWithLine bytes bytes []
+pub begins_only : (bytes : List ℕ) → 0 < length bytes → feed bytes ≡ length bytes → BeginsWithLine bytes bytes (length bytes)
 begins_only bytes some is = record {
   line = bytes;
-  lines = lines_only bytes some is;
+  lines = rw (drop_all (length bytes) bytes (omega arith)) (lines_only bytes some is);
   text_is = take_all (feed bytes) bytes (omega (arith, is));
-  size = omega arith;
+  size_is = refl;
   some = some;
+  within = omega arith;
 }
 
 -- what `position` finds
@@ -88,18 +90,13 @@ feed_none bytes is =
       | false ↦ λ t is. grind (arith, nat_tests, feed_le bytes)
     ] refl is
 
-pub split_found : (bytes : List ℕ) (n : ℕ) → position (λ b. b == 10) bytes ≡ Some n
-    → BeginsWithLine bytes (take n bytes) (take (length bytes - (n + 1)) (drop (n + 1) bytes))
+pub split_found : (bytes : List ℕ) (n : ℕ) → position (λ b. b == 10) bytes ≡ Some n → BeginsWithLine bytes (take n bytes) (n + 1)
 split_found bytes n is =
     let f = feed_at bytes n is in
-    rw take_rest (subst (λ k. BeginsWithLine bytes (take k bytes) (drop (k + 1) bytes)) f.1 (begins_first bytes f.0))
+    subst (λ k. BeginsWithLine bytes (take k bytes) (k + 1)) f.1 (begins_first bytes f.0)
 
-pub split_whole : (bytes : List ℕ) → 0 < length bytes → position (λ b. b == 10) bytes ≡ None
-    → BeginsWithLine bytes (take (length bytes) bytes) (drop (length bytes) bytes)
-split_whole bytes some is =
-    let t = take_all (length bytes) bytes (omega arith) in
-    let d = drop_all (length bytes) bytes (omega arith) in
-    rw (t, d) (begins_only bytes some (feed_none bytes is))
+pub split_whole : (bytes : List ℕ) → 0 < length bytes → position (λ b. b == 10) bytes ≡ None → BeginsWithLine bytes bytes (length bytes)
+split_whole bytes some is = begins_only bytes some (feed_none bytes is)
 
 -- where the first space stands, or how many bytes there are
 abbrev pub space : List ℕ → ℕ

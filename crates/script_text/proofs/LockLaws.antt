@@ -10,8 +10,8 @@ use Rattle.mdc_types.specs.declared.resources.Res.{Res}
 use Rattle.script_text.specs.declared.locks.LockLine.{LockLine}
 use Rattle.script_text.specs.declared.faults.FaultKind.TheVariants as kinds
 use Rattle.script_text.specs.Lines.{lines_of, script_limit, one, two, three, first, second, third}
-use Rattle.script_text.specs.Script.{byte_word}
-use Rattle.script_text.specs.Locks.{all_resources, res_among, res_of, res_word, mode_word, node_in, node_word, fits_res, fits_mode, fitting, node_res_mode, node_res, one_res, one_node, ask_line, now_line, convert_line, up_line, grant_line, release_line, die_line, calls_line, lock_line_of, IsNodeRes, IsLockLine, locks_judged}
+use Rattle.script_text.specs.Arguments.{byte_word, all_resources, res_among, res_of, res_word, mode_word, fits_res, fits_mode, fitting, one_res}
+use Rattle.script_text.specs.Locks.{node_in, node_word, node_res_mode, node_res, one_node, ask_line, now_line, convert_line, up_line, grant_line, release_line, die_line, calls_line, lock_line_of, IsNodeRes, IsLockLine, locks_judged}
 use Rattle.script_text.proofs.GrammarLaws.{bind_ok, ok_or_some, ok_same, chosen, body_are}
 
 abbrev AreResources : List Res → Type 0

@@ -5,14 +5,15 @@ use Rattle.std.proofs.lemmas.List.{append_assoc, take_all, take-append-le, lengt
 use Rattle.std.proofs.lemmas.Slice.Eq.{bytes_eq-Decides}
 use Rattle.std.proofs.Math.Seq.{take-append-add}
 use Rattle.std.specs.Str.{bytes_eq, is_utf8}
-use Rattle.script_text.specs.declared.script.Line.{Line}
 use Rattle.script_text.specs.declared.faults.FaultKind.{FaultKind}
 use Rattle.script_text.specs.declared.faults.FaultKind.TheVariants as kinds
 use Rattle.script_text.specs.declared.faults.ScriptFault.{ScriptFault}
-use Rattle.script_text.specs.Judging.{at_line}
+use Rattle.script_text.specs.Judging.{◌>>=◌, at_line}
 use Rattle.script_text.specs.Lines.{lines_of, text_of, through_end, up_to_end, input_part, script_limit}
 use Rattle.script_text.specs.Locks.{lock_line_of, locks_judged}
-use Rattle.script_text.specs.Script.{ScriptValue, said_by, words_said, line_of, line_then, body_of, header_then, script_in, judged}
+use Rattle.script_text.specs.declared.script.Start.{Start}
+use Rattle.script_text.specs.Header.{Setup, start_of, is_setup, setup_line, with_line}
+use Rattle.script_text.specs.Script.{ScriptValue, said_by, words_said, line_of, line_then, body_of, with_lines, setup_then, setup_in, new_setup, header_then, script_in, judged}
 use Rattle.script_text.proofs.LinesLaws.{lines_only}
 use Rattle.script_text.proofs.InputLaws.{IsText, IsText-tail, lines_at_feed, text_read, line_read, end_read, end_line}
 
@@ -20,15 +21,40 @@ use Rattle.script_text.proofs.InputLaws.{IsText, IsText-tail, lines_at_feed, tex
 record Same (n room : ℕ) (xs ys : List (List ℕ)) : Type 0 where
   body : body_of line_of n room xs ≡ body_of line_of n room ys
   locks : body_of lock_line_of n room xs ≡ body_of lock_line_of n room ys
+  setup : (first : Bool) (s : Setup) → setup_in first s n room xs ≡ setup_in first s n room ys
   script : script_in n room xs ≡ script_in n room ys
 
+-- the same comes after a line
+bind_same : {A B E : Type 0} (r : Result A E) (f g : A → Result B E) → ((x : A) → f x ≡ g x) → (r >>= f) ≡ (r >>= g)
+bind_same (Err e) f g same = refl
+bind_same (Ok x) f g same = same x
+
+cond_same : {A : Type 0} (b : Bool) (x y z w : A) → x ≡ z → y ≡ w → cond b x y ≡ cond b z w
+cond_same true x y z w e f = e
+cond_same false x y z w e f = f
+
+setup_same : (first : Bool) (s : Setup) (n : ℕ) (said : Result (List (List ℕ)) FaultKind) (f g : Bool → Setup → Result ScriptValue ScriptFault) (x y : Result ScriptValue ScriptFault)
+    → ((b : Bool) (t : Setup) → f b t ≡ g b t) → x ≡ y → setup_then first s n said f x ≡ setup_then first s n said g y
+setup_same first s n (Err kind) f g x y same is = is
+setup_same first s n (Ok []) f g x y same is = same first s
+setup_same first s n (Ok (word ∷ args)) f g x y same is =
+    cond_same (is_setup first word) _ _ _ _ (bind_same (at_line n (setup_line s.start word args)) _ _ (λ line. same false (with_line s line))) is
+
+header_same : (n : ℕ) (said : Result (List (List ℕ)) FaultKind) (x y : Result ScriptValue ScriptFault) (f g : Start → Result ScriptValue ScriptFault)
+    → x ≡ y → ((s : Start) → f s ≡ g s) → header_then n said x f ≡ header_then n said y g
+header_same n (Err kind) x y f g is same = refl
+header_same n (Ok []) x y f g is same = is
+header_same n (Ok (word ∷ args)) x y f g is same = bind_same (at_line n (start_of word args)) f g same
+
 same_more : (n room : ℕ) (line : List ℕ) (xs ys : List (List ℕ)) → Same (n + 1) (room - length line) xs ys → Same n room (line ∷ xs) (line ∷ ys)
-same_more n room line xs ys s = record {
-  body = ap (line_then line_of n (said_by room line)) s.body;
-  locks = ap (line_then lock_line_of n (said_by room line)) s.locks;
-  script = ap (λ later. header_then n (said_by room line) later (body_of line_of (n + 1) (room - length line) xs)) s.script
-      ∙ ap (header_then n (said_by room line) (script_in (n + 1) (room - length line) ys)) s.body;
-}
+same_more n room line xs ys s =
+    let body : body_of line_of n room (line ∷ xs) ≡ body_of line_of n room (line ∷ ys) = ap (line_then line_of n (said_by room line)) s.body in
+    record {
+      body = body;
+      locks = ap (line_then lock_line_of n (said_by room line)) s.locks;
+      setup = λ first t. setup_same first t n (said_by room line) _ _ _ _ s.setup (ap (with_lines t) body);
+      script = header_same n (said_by room line) _ _ _ _ s.script (λ start. s.setup true (new_setup start));
+    }
 
 -- there is no room for the line
 said_long : (room : ℕ) (line : List ℕ) → room < length line → said_by room line ≡ Err kinds.Long
@@ -37,14 +63,20 @@ said_long room line long = let t : nat_lt room (length line) ≡ true = grind (a
 body_long : {L : Type 0} (of : List ℕ → List (List ℕ) → Result L FaultKind) (n room : ℕ) (line : List ℕ) (xs : List (List ℕ)) → room < length line → body_of of n room (line ∷ xs) ≡ at_line n (Err kinds.Long)
 body_long of n room line xs long = ap (λ said. line_then of n said (body_of of (n + 1) (room - length line) xs)) (said_long room line long)
 
+setup_long : (first : Bool) (s : Setup) (n room : ℕ) (line : List ℕ) (xs : List (List ℕ)) → room < length line → setup_in first s n room (line ∷ xs) ≡ with_lines s (at_line n (Err kinds.Long))
+setup_long first s n room line xs long =
+    ap (λ said. setup_then first s n said (λ f t. setup_in f t (n + 1) (room - length line) xs) (with_lines s (body_of line_of n room (line ∷ xs)))) (said_long room line long)
+    ∙ ap (with_lines s) (body_long line_of n room line xs long)
+
 script_long : (n room : ℕ) (line : List ℕ) (xs : List (List ℕ)) → room < length line → script_in n room (line ∷ xs) ≡ at_line n (Err kinds.Long)
 script_long n room line xs long =
-    ap (λ said. header_then n said (script_in (n + 1) (room - length line) xs) (body_of line_of (n + 1) (room - length line) xs)) (said_long room line long)
+    ap (λ said. header_then n said (script_in (n + 1) (room - length line) xs) (λ start. setup_in true (new_setup start) (n + 1) (room - length line) xs)) (said_long room line long)
 
 same_long : (n room : ℕ) (a b : List ℕ) (xs ys : List (List ℕ)) → room < length a → room < length b → Same n room (a ∷ xs) (b ∷ ys)
 same_long n room a b xs ys long longer = record {
   body = body_long line_of n room a xs long ∙ sym (body_long line_of n room b ys longer);
   locks = body_long lock_line_of n room a xs long ∙ sym (body_long lock_line_of n room b ys longer);
+  setup = λ first s. setup_long first s n room a xs long ∙ sym (setup_long first s n room b ys longer);
   script = script_long n room a xs long ∙ sym (script_long n room b ys longer);
 }
 
@@ -57,22 +89,33 @@ end_then of n true text xs ys = refl
 end_then of n false true xs ys = refl
 end_then of n false false xs ys = refl
 
-end_first : (n : ℕ) (long text : Bool) (xs ys : Result ScriptValue ScriptFault) (body body₂ : Result (List Line) ScriptFault)
-    → header_then n (end_said long text) xs body ≡ header_then n (end_said long text) ys body₂
-end_first n true text xs ys body body₂ = refl
-end_first n false true xs ys body body₂ = refl
-end_first n false false xs ys body body₂ = refl
+end_setup : (first : Bool) (s : Setup) (n : ℕ) (long text : Bool) (f g : Bool → Setup → Result ScriptValue ScriptFault) (x y : Result ScriptValue ScriptFault) → x ≡ y
+    → setup_then first s n (end_said long text) f x ≡ setup_then first s n (end_said long text) g y
+end_setup first s n true text f g x y is = is
+end_setup true s n false true f g x y is = is
+end_setup false s n false true f g x y is = is
+end_setup first s n false false f g x y is = is
+
+end_first : (n : ℕ) (long text : Bool) (xs ys : Result ScriptValue ScriptFault) (f g : Start → Result ScriptValue ScriptFault)
+    → header_then n (end_said long text) xs f ≡ header_then n (end_said long text) ys g
+end_first n true text xs ys f g = refl
+end_first n false true xs ys f g = refl
+end_first n false false xs ys f g = refl
 
 same_end : (n room : ℕ) (xs ys : List (List ℕ)) → Same n room (end_line ∷ xs) (end_line ∷ ys)
-same_end n room xs ys = record {
-  body = end_then line_of n (nat_lt room (length end_line)) (is_utf8 (text_of end_line)) (body_of line_of (n + 1) (room - length end_line) xs) (body_of line_of (n + 1) (room - length end_line) ys);
-  locks = end_then lock_line_of n (nat_lt room (length end_line)) (is_utf8 (text_of end_line)) (body_of lock_line_of (n + 1) (room - length end_line) xs) (body_of lock_line_of (n + 1) (room - length end_line) ys);
-  script = end_first n (nat_lt room (length end_line)) (is_utf8 (text_of end_line)) (script_in (n + 1) (room - length end_line) xs) (script_in (n + 1) (room - length end_line) ys)
-      (body_of line_of (n + 1) (room - length end_line) xs) (body_of line_of (n + 1) (room - length end_line) ys);
-}
+same_end n room xs ys =
+    let long = nat_lt room (length end_line) in
+    let text = is_utf8 (text_of end_line) in
+    let body : body_of line_of n room (end_line ∷ xs) ≡ body_of line_of n room (end_line ∷ ys) = end_then line_of n long text _ _ in
+    record {
+      body = body;
+      locks = end_then lock_line_of n long text _ _;
+      setup = λ first s. end_setup first s n long text _ _ _ _ (ap (with_lines s) body);
+      script = end_first n long text _ _ _ _;
+    }
 
 same_refl : (n room : ℕ) (xs : List (List ℕ)) → Same n room xs xs
-same_refl n room xs = record { body = refl; locks = refl; script = refl }
+same_refl n room xs = record { body = refl; locks = refl; setup = λ first s. refl; script = refl }
 
 is_end_line : (line : List ℕ) → bytes_eq line end_line ≡ true → line ≡ end_line
 is_end_line line is = grind (arith, bytes_eq-Decides line end_line)

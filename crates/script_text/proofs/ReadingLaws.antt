@@ -1,21 +1,27 @@
--- What a line says.
-use Rattle.std.proofs.Common.{◌≡◌, ℕ, ◌+◌, ◌-◌, ◌<◌, ◌≤◌, nat_lt, true, false, List, [], ◌∷◌, ◌++◌, length, Option, Some, None, Result, Ok, Err, refl, ap, sym, subst, ◌∙◌, arith}
+-- What a line says, and the lines after it.
+use Rattle.std.proofs.Common.{◌≡◌, ℕ, ◌+◌, ◌-◌, ◌<◌, ◌≤◌, nat_lt, Bool, true, false, List, [], ◌∷◌, ◌++◌, length, drop, Option, Some, None, Result, Ok, Err, refl, ap, sym, subst, ◌∙◌, arith}
 use Rattle.std.proofs.lemmas.Bool.Decides.{nat_tests}
-use Rattle.std.proofs.lemmas.List.{append_assoc}
+use Rattle.std.proofs.lemmas.List.{append_assoc, drop_all, drop-drop, length-drop}
 use Rattle.std.proofs.lemmas.Str.{IsUtf8-from_is_utf8, is_utf8-from_IsUtf8}
 use Rattle.std.specs.Borrow.{Bor}
-use Rattle.std.specs.Prelude.{is_some, codes}
+use Rattle.std.specs.Prelude.{is_some}
 use Rattle.std.specs.Result.{MatchResult}
 use Rattle.std.specs.Option.{option_copied}
-use Rattle.std.specs.Str.{IsUtf8, is_utf8, bytes_eq}
+use Rattle.std.specs.Str.{IsUtf8, is_utf8}
+use Rattle.script_text.specs.declared.script.Start.{Start}
+use Rattle.script_text.specs.declared.script.FaultLine.{FaultLine}
+use Rattle.script_text.specs.declared.header.SetupLine.{SetupLine}
 use Rattle.script_text.specs.declared.faults.FaultKind.{FaultKind}
 use Rattle.script_text.specs.declared.faults.FaultKind.TheVariants as kinds
 use Rattle.script_text.specs.declared.faults.ScriptFault.{ScriptFault}
-use Rattle.script_text.specs.Judging.{at_line}
-use Rattle.script_text.specs.Lines.{lines_of, words_after}
-use Rattle.script_text.specs.Reading.{BeginsWithLine, ReadsLine, words_read, extra_words}
+use Rattle.script_text.specs.Arguments.{alone}
+use Rattle.script_text.specs.Header.{Setup, start_of, is_setup, setup_line, with_line}
+use Rattle.script_text.specs.Judging.{◌>>=◌, at_line}
+use Rattle.script_text.specs.Lines.{lines_of, words_after, script_limit}
+use Rattle.script_text.specs.Places.{line_in, first_line, line_at}
+use Rattle.script_text.specs.Reading.{BeginsWithLine, HasFault, HasLine, ReadsLine, words_read, body_at, setup_at}
 use Rattle.script_text.proofs.LinesLaws.{words_some}
-use Rattle.script_text.specs.Script.{said_by, words_said, end_of, check_line, line_of, line_then, onto_lines, body_of, header_then, script_in}
+use Rattle.script_text.specs.Script.{ScriptValue, said_by, words_said, line_of, line_then, onto_lines, body_of, with_lines, setup_then, setup_in, header_then, script_in, new_setup}
 
 not_text : (bytes : List ℕ) → ¬ (IsUtf8 bytes) → is_utf8 bytes ≡ false
 not_text bytes wrong = elim (is_utf8 bytes) as (λ b. is_utf8 bytes ≡ b → b ≡ false) [
@@ -23,110 +29,140 @@ not_text bytes wrong = elim (is_utf8 bytes) as (λ b. is_utf8 bytes ≡ b → b 
   | false ↦ λ t. refl
 ] refl
 
--- the first line of the bytes, its text and what follows it
-module _ (bytes text rest : List ℕ) (room : ℕ) (b : BeginsWithLine bytes text rest) where
-  pub too_long : room < length bytes - length rest → ReadsLine bytes room (Err kinds.Long)
+-- the line at a place, of this text and size
+module _ (bytes : List ℕ) (at : ℕ) (text : List ℕ) (size : ℕ) (b : BeginsWithLine (drop at bytes) text size) where
+  pub too_long : script_limit - at < size → HasFault bytes at kinds.Long
   too_long long =
-      let past : nat_lt room (length b.line) ≡ true = grind (arith, nat_tests, b.size) in
-      (b.line, rest, b.lines, rw past refl)
+      let past : nat_lt (script_limit - at) (length b.line) ≡ true = grind (arith, nat_tests, b.size_is) in
+      record { line = b.line; lines = lines_of (drop size (drop at bytes)); first = b.lines; said = rw past refl }
 
-  pub wrong_text : {E : Type 0} (Q : E → Type 0) (r : Result (Bor (List ℕ)) E) → MatchResult r (λ s. (s.now ≡ text) × IsUtf8 text) (λ e. ¬ (IsUtf8 text) × Q e)
-      → (e : E) → r ≡ Err e → length bytes - length rest ≤ room → ReadsLine bytes room (Err kinds.Utf8)
-  wrong_text Q (Ok s) h e is fits = cc
-  wrong_text Q (Err d) h e is fits =
-      let within : nat_lt room (length b.line) ≡ false = grind (arith, nat_tests, b.size) in
-      (b.line, rest, b.lines, rw (within, b.text_is, not_text text h.0) refl)
+  module _ (fits : size ≤ script_limit - at) where
+    within : nat_lt (script_limit - at) (length b.line) ≡ false
+    within = grind (arith, nat_tests, b.size_is)
 
-  pub right_text : {E : Type 0} (Q : E → Type 0) (r : Result (Bor (List ℕ)) E) → MatchResult r (λ s. (s.now ≡ text) × IsUtf8 text) (λ e. ¬ (IsUtf8 text) × Q e)
-      → (s : Bor (List ℕ)) → r ≡ Ok s → length bytes - length rest ≤ room → said_by room b.line ≡ Ok (words_said s.now)
-  right_text Q (Ok t) h s is fits =
-      let same : t ≡ s = cc in
-      let within : nat_lt room (length b.line) ≡ false = grind (arith, nat_tests, b.size) in
-      rw (within, b.text_is, is_utf8-from_IsUtf8 text h.1, sym same, h.0) refl
-  right_text Q (Err e) h s is fits = cc
+    pub wrong_text : {E : Type 0} (Q : E → Type 0) (r : Result (Bor (List ℕ)) E) → MatchResult r (λ s. (s.now ≡ text) × IsUtf8 text) (λ e. ¬ (IsUtf8 text) × Q e)
+        → (e : E) → r ≡ Err e → HasFault bytes at kinds.Utf8
+    wrong_text Q (Ok s) h e is = cc
+    wrong_text Q (Err d) h e is =
+        record { line = b.line; lines = lines_of (drop size (drop at bytes)); first = b.lines; said = rw (within, b.text_is, not_text text h.0) refl }
+
+    pub right_text : {E : Type 0} (Q : E → Type 0) (r : Result (Bor (List ℕ)) E) → MatchResult r (λ s. (s.now ≡ text) × IsUtf8 text) (λ e. ¬ (IsUtf8 text) × Q e)
+        → (s : Bor (List ℕ)) → r ≡ Ok s → said_by (script_limit - at) b.line ≡ Ok (words_said s.now)
+    right_text Q (Ok t) h s is =
+        let same : t ≡ s = cc in
+        rw (within, b.text_is, is_utf8-from_IsUtf8 text h.1, sym same, h.0) refl
+    right_text Q (Err e) h s is = cc
 
 abbrev err_with : {E : Type 0} (A : Type 0) → E → Result A E
 err_with A e = Err e
 
-err_same : {A E : Type 0} {x y : E} → err_with A x ≡ err_with A y → x ≡ y
+pub err_same : {A E : Type 0} {x y : E} → err_with A x ≡ err_with A y → x ≡ y
 err_same is = cc
 
 -- What was read of a line.
 abbrev pub Found : Type 0
-Found = Option (Bor (List ℕ) × Option (Bor (List ℕ))) × Bor (List ℕ) × ℕ
+Found = Option (Bor (List ℕ) × Option (Bor (List ℕ))) × ℕ
 
--- line n, which begins the bytes, and what was read of it
-module _ (bytes : List ℕ) (n room : ℕ) where
-  pub found_read : (r : Result Found FaultKind) (x : Found) → ReadsLine bytes room r → at_line n r ≡ Ok x → ReadsLine bytes room (Ok x)
-  found_read (Err kind) x h is = cc
-  found_read (Ok y) x h is = let same : y ≡ x = cc in subst (λ z. ReadsLine bytes room (Ok z)) same h
+pub found_line : (bytes : List ℕ) (at n : ℕ) (r : Result Found FaultKind) (x : Found) → ReadsLine bytes at r → at_line n r ≡ Ok x → HasLine bytes at (words_read x.0) x.1
+found_line bytes at n (Err kind) x h is = cc
+found_line bytes at n (Ok y) x h is = let same : y ≡ x = cc in subst (λ z. ReadsLine bytes at (Ok z)) same h
+
+pub found_fault : (bytes : List ℕ) (at n : ℕ) (r : Result Found FaultKind) (fault : ScriptFault) → ReadsLine bytes at r → at_line n r ≡ Err fault
+    → (kind : FaultKind) × HasFault bytes at kind × (at_line {A = Found} n (Err kind) ≡ Err fault)
+found_fault bytes at n (Err kind) fault h is = (kind, h, is)
+found_fault bytes at n (Ok y) fault h is = cc
+
+-- words stand after the first
+pub some_more : (args : Option (Bor (List ℕ))) {A : Type 0} (x : A) → true ≡ is_some args → alone x (words_after (option_copied args)) ≡ Err kinds.Count
+some_more None x some = cc
+some_more (Some more) x some = let w = words_some more.now in rw w.2 refl
+
+-- none do
+pub no_more : (args : Option (Bor (List ℕ))) {A : Type 0} (x : A) → false ≡ is_some args → alone x (words_after (option_copied args)) ≡ Ok x
+no_more None x none = refl
+no_more (Some more) x none = cc
+
+-- nothing is left
+none_left : (bytes : List ℕ) (at : ℕ) → length bytes ≤ at → lines_of (drop at bytes) ≡ []
+none_left bytes at le = ap lines_of (drop_all at bytes le)
+
+-- Line n stands at the place.
+module _ (bytes : List ℕ) (at n : ℕ) where
+  room_after : (words : List (List ℕ)) (next : ℕ) (h : HasLine bytes at words next) → script_limit - at - length h.line ≡ script_limit - next
+  room_after words next h = omega (arith, h.next_is, h.room)
+
+  pub script_first : (words : List (List ℕ)) (next : ℕ) → HasLine bytes at words next
+      → script_in n (script_limit - at) (lines_of (drop at bytes))
+      ≡ header_then n (Ok words) (script_in (n + 1) (script_limit - next) (lines_of (drop next bytes))) (λ start. setup_at bytes (new_setup start) next (n + 1))
+  script_first words next h =
+      ap (script_in n (script_limit - at)) h.first
+      ∙ (ap (λ said. header_then n said (script_in (n + 1) (script_limit - at - length h.line) (lines_of (drop next bytes)))
+      (λ start. setup_in true (new_setup start) (n + 1) (script_limit - at - length h.line) (lines_of (drop next bytes)))) h.said
+      ∙ ap (λ room. header_then n (Ok words) (script_in (n + 1) room (lines_of (drop next bytes))) (λ start. setup_in true (new_setup start) (n + 1) room (lines_of (drop next bytes))))
+      (room_after words next h))
+
+  pub script_fault : (kind : FaultKind) → HasFault bytes at kind → script_in n (script_limit - at) (lines_of (drop at bytes)) ≡ at_line n (Err kind)
+  script_fault kind h =
+      ap (script_in n (script_limit - at)) h.first
+      ∙ ap (λ said. header_then n said (script_in (n + 1) (script_limit - at - length h.line) h.lines)
+      (λ start. setup_in true (new_setup start) (n + 1) (script_limit - at - length h.line) h.lines)) h.said
+
+  pub setup_first : (first : Bool) (s : Setup) (words : List (List ℕ)) (next : ℕ) → HasLine bytes at words next
+      → setup_in first s n (script_limit - at) (lines_of (drop at bytes))
+      ≡ setup_then first s n (Ok words) (λ f t. setup_in f t (n + 1) (script_limit - next) (lines_of (drop next bytes))) (with_lines s (body_at line_of bytes at n))
+  setup_first first s words next h =
+      ap (setup_in first s n (script_limit - at)) h.first
+      ∙ (ap (λ said. setup_then first s n said (λ f t. setup_in f t (n + 1) (script_limit - at - length h.line) (lines_of (drop next bytes)))
+      (with_lines s (body_of line_of n (script_limit - at) (h.line ∷ lines_of (drop next bytes))))) h.said
+      ∙ (ap (λ room. setup_then first s n (Ok words) (λ f t. setup_in f t (n + 1) room (lines_of (drop next bytes)))
+      (with_lines s (body_of line_of n (script_limit - at) (h.line ∷ lines_of (drop next bytes))))) (room_after words next h)
+      ∙ ap (λ lines. setup_then first s n (Ok words) (λ f t. setup_in f t (n + 1) (script_limit - next) (lines_of (drop next bytes)))
+      (with_lines s (body_of line_of n (script_limit - at) lines))) (sym h.first)))
+
+  pub setup_fault : (first : Bool) (s : Setup) (kind : FaultKind) → HasFault bytes at kind
+      → setup_in first s n (script_limit - at) (lines_of (drop at bytes)) ≡ with_lines s (body_at line_of bytes at n)
+  setup_fault first s kind h =
+      ap (setup_in first s n (script_limit - at)) h.first
+      ∙ (ap (λ said. setup_then first s n said (λ f t. setup_in f t (n + 1) (script_limit - at - length h.line) h.lines)
+      (with_lines s (body_of line_of n (script_limit - at) (h.line ∷ h.lines)))) h.said
+      ∙ ap (λ lines. with_lines s (body_of line_of n (script_limit - at) lines)) (sym h.first))
+
+  pub setup_none : (first : Bool) (s : Setup) → length bytes ≤ at → setup_in first s n (script_limit - at) (lines_of (drop at bytes)) ≡ with_lines s (body_at line_of bytes at n)
+  setup_none first s le =
+      ap (setup_in first s n (script_limit - at)) (none_left bytes at le)
+      ∙ ap (λ lines. with_lines s (body_of line_of n (script_limit - at) lines)) (sym (none_left bytes at le))
+
+  pub script_none : length bytes ≤ at → script_in n (script_limit - at) (lines_of (drop at bytes)) ≡ at_line n (Err kinds.NoArray)
+  script_none le = ap (script_in n (script_limit - at)) (none_left bytes at le)
 
   module _ {L : Type 0} (of : List ℕ → List (List ℕ) → Result L FaultKind) where
-    pub body_first : (r : Result Found FaultKind) (x : Found) → ReadsLine bytes room r → at_line n r ≡ Ok x
-        → body_of of n room (lines_of bytes) ≡ line_then of n (Ok (words_read x.0)) (body_of of (n + 1) x.2 (lines_of x.1.now))
-    body_first r x h is =
-        let f = found_read r x h is in
-        ap (body_of of n room) f.1
-        ∙ (ap (λ said. line_then of n said (body_of of (n + 1) (room - length f.0) (lines_of x.1.now))) f.2
-        ∙ ap (λ left. line_then of n (Ok (words_read x.0)) (body_of of (n + 1) left (lines_of x.1.now))) (sym f.3))
+    pub body_first : (words : List (List ℕ)) (next : ℕ) → HasLine bytes at words next → body_at of bytes at n ≡ line_then of n (Ok words) (body_at of bytes next (n + 1))
+    body_first words next h =
+        ap (body_of of n (script_limit - at)) h.first
+        ∙ (ap (λ said. line_then of n said (body_of of (n + 1) (script_limit - at - length h.line) (lines_of (drop next bytes)))) h.said
+        ∙ ap (λ room. line_then of n (Ok words) (body_of of (n + 1) room (lines_of (drop next bytes)))) (room_after words next h))
 
-    pub body_wrong : (r : Result Found FaultKind) (fault : ScriptFault) → ReadsLine bytes room r → at_line n r ≡ Err fault → body_of of n room (lines_of bytes) ≡ Err fault
-    body_wrong (Err kind) fault h is =
-        ap (body_of of n room) h.2 ∙ (ap (λ said. line_then of n said (body_of of (n + 1) (room - length h.0) (lines_of h.1))) h.3 ∙ ap Err (err_same is))
-    body_wrong (Ok x) fault h is = cc
+    pub body_fault : (kind : FaultKind) → HasFault bytes at kind → body_at of bytes at n ≡ at_line n (Err kind)
+    body_fault kind h =
+        ap (body_of of n (script_limit - at)) h.first
+        ∙ ap (λ said. line_then of n said (body_of of (n + 1) (script_limit - at - length h.line) h.lines)) h.said
 
-  pub script_first : (r : Result Found FaultKind) (x : Found) → ReadsLine bytes room r → at_line n r ≡ Ok x
-      → script_in n room (lines_of bytes) ≡ header_then n (Ok (words_read x.0)) (script_in (n + 1) x.2 (lines_of x.1.now)) (body_of line_of (n + 1) x.2 (lines_of x.1.now))
-  script_first r x h is =
-      let f = found_read r x h is in
-      ap (script_in n room) f.1
-      ∙ (ap (λ said. header_then n said (script_in (n + 1) (room - length f.0) (lines_of x.1.now)) (body_of line_of (n + 1) (room - length f.0) (lines_of x.1.now))) f.2
-      ∙ ap (λ left. header_then n (Ok (words_read x.0)) (script_in (n + 1) left (lines_of x.1.now)) (body_of line_of (n + 1) left (lines_of x.1.now))) (sym f.3))
+    pub body_none : length bytes ≤ at → body_at of bytes at n ≡ at_line n (Err kinds.NoEnd)
+    body_none le = ap (body_of of n (script_limit - at)) (none_left bytes at le)
 
-  pub script_wrong : (r : Result Found FaultKind) (fault : ScriptFault) → ReadsLine bytes room r → at_line n r ≡ Err fault → script_in n room (lines_of bytes) ≡ Err fault
-  script_wrong (Err kind) fault h is =
-      ap (script_in n room) h.2
-      ∙ (ap (λ said. header_then n said (script_in (n + 1) (room - length h.0) (lines_of h.1)) (body_of line_of (n + 1) (room - length h.0) (lines_of h.1))) h.3 ∙ ap Err (err_same is))
-  script_wrong (Ok x) fault h is = cc
+    pub place_first : (words : List (List ℕ)) (next : ℕ) → HasLine bytes at words next → line_at of bytes at ≡ line_in of (Ok words)
+    place_first words next h = ap (first_line of (script_limit - at)) h.first ∙ ap (line_in of) h.said
+
+    pub place_fault : (kind : FaultKind) → HasFault bytes at kind → line_at of bytes at ≡ None
+    place_fault kind h = ap (first_line of (script_limit - at)) h.first ∙ ap (line_in of) h.said
+
+    pub place_none : length bytes ≤ at → line_at of bytes at ≡ None
+    place_none le = ap (first_line of (script_limit - at)) (none_left bytes at le)
 
 -- lines that were read, and those that are still to be read
 abbrev pub after_lines : {L : Type 0} → List L → Result (List L) ScriptFault → Result (List L) ScriptFault
 after_lines front (Err fault) = Err fault
 after_lines front (Ok lines) = Ok (front ++ lines)
-
--- words stand after the first
-pub some_more : (args : Option (Bor (List ℕ))) → true ≡ is_some args → extra_words (words_after (option_copied args)) ≡ Some kinds.Count
-some_more None some = cc
-some_more (Some more) some = let w = words_some more.now in rw w.2 refl
-
--- none do
-pub no_more : (args : Option (Bor (List ℕ))) → false ≡ is_some args → extra_words (words_after (option_copied args)) ≡ None
-no_more None none = refl
-no_more (Some more) none = cc
-
-pub end_alone : {L : Type 0} (args : List (List ℕ)) → extra_words args ≡ None → end_of {L = L} args ≡ Ok []
-end_alone [] is = refl
-end_alone (arg ∷ args) is = cc
-
-pub end_more : {L : Type 0} (args : List (List ℕ)) (kind : FaultKind) → extra_words args ≡ Some kind → end_of {L = L} args ≡ Err kind
-end_more [] kind is = cc
-end_more (arg ∷ args) kind is = let same : kinds.Count ≡ kind = cc in ap Err same
-
--- words stand after `check`
-pub check_more : (args : Option (Bor (List ℕ))) → true ≡ is_some args → check_line (words_after (option_copied args)) ≡ Err kinds.Count
-check_more None some = cc
-check_more (Some more) some = let w = words_some more.now in rw w.2 refl
-
-module _ {L : Type 0} (of : List ℕ → List (List ℕ) → Result L FaultKind) where
-  -- the line `end`
-  pub line_then-end : (n : ℕ) (word : List ℕ) (args : List (List ℕ)) (later : Result (List L) ScriptFault) → bytes_eq word (codes "end") ≡ true
-      → line_then of n (Ok (word ∷ args)) later ≡ at_line n (end_of args)
-  line_then-end n word args later is = rw is refl
-
-  -- another line
-  pub line_then-other : (n : ℕ) (word : List ℕ) (args : List (List ℕ)) (later : Result (List L) ScriptFault) → bytes_eq word (codes "end") ≡ false
-      → line_then of n (Ok (word ∷ args)) later ≡ onto_lines (at_line n (of word args)) later
-  line_then-other n word args later is = rw is refl
 
 -- one line more
 pub after_lines-onto_lines : {L : Type 0} (front : List L) (line : Result L ScriptFault) (first : L) (later : Result (List L) ScriptFault) → line ≡ Ok first
@@ -139,37 +175,64 @@ pub onto_lines-wrong : {L : Type 0} (line : Result L ScriptFault) (fault : Scrip
 onto_lines-wrong (Err f) fault later is = ap Err (err_same is)
 onto_lines-wrong (Ok line) fault later is = cc
 
--- Lines were read, and then line n.
-module _ {L : Type 0} (of : List ℕ → List (List ℕ) → Result L FaultKind) (whole : Result (List L) ScriptFault) (front : List L) (bytes : List ℕ) (n room : ℕ) (r : Result Found FaultKind)
-    (so_far : whole ≡ after_lines front (body_of of n room (lines_of bytes))) (h : ReadsLine bytes room r) where
-  pub read_skipped : (after : Bor (List ℕ)) (left : ℕ) → at_line n r ≡ Ok (None, after, left) → whole ≡ after_lines front (body_of of (n + 1) left (lines_of after.now))
-  read_skipped after left is = so_far ∙ ap (after_lines front) (body_first bytes n room of r (None, after, left) h is)
+-- The line of the given text at the place, and what was read of it.
+module _ (bytes : List ℕ) (at : ℕ) (text : List ℕ) (size : ℕ) (b : BeginsWithLine (drop at bytes) text size) where
+  pub line_read : (words : List (List ℕ)) → size ≤ script_limit - at → said_by (script_limit - at) b.line ≡ Ok words → HasLine bytes at words (at + size)
+  line_read words fits said = record {
+    line = b.line;
+    first = b.lines ∙ ap (λ rest. b.line ∷ lines_of rest) (drop-drop size at bytes);
+    said = said;
+    next_is = omega (arith, b.size_is);
+    later = omega (arith, b.some);
+    within = omega (arith, b.within, b.some, length-drop at bytes);
+    room = omega (arith, b.some);
+  }
 
-  -- a fault of the line
-  pub read_bad : (fault : ScriptFault) → at_line n r ≡ Err fault → whole ≡ Err fault
-  read_bad fault is = so_far ∙ ap (after_lines front) (body_wrong bytes n room of r fault h is)
+module _ (bytes : List ℕ) (at n : ℕ) (word : List ℕ) (args : List (List ℕ)) (next : ℕ) (h : HasLine bytes at (word ∷ args) next) where
+  pub start_found : (whole : Result ScriptValue ScriptFault) (s : Start) → whole ≡ script_in n (script_limit - at) (lines_of (drop at bytes)) → at_line n (start_of word args) ≡ Ok s
+      → whole ≡ setup_at bytes (new_setup s) next (n + 1)
+  start_found whole s is there = is ∙ (script_first bytes at n (word ∷ args) next h ∙ ap (λ r. r >>= λ start. setup_at bytes (new_setup start) next (n + 1)) there)
 
-  module _ (word after : Bor (List ℕ)) (args : Option (Bor (List ℕ))) (left : ℕ) (is : at_line n r ≡ Ok (Some (word, args), after, left)) where
-    -- the line `end`
-    pub read_end : true ≡ bytes_eq word.now (codes "end") → whole ≡ after_lines front (at_line n (end_of (words_after (option_copied args))))
-    read_end last =
-        so_far
-        ∙ ap (after_lines front) (body_first bytes n room of r (Some (word, args), after, left) h is
-        ∙ line_then-end of n word.now (words_after (option_copied args)) (body_of of (n + 1) left (lines_of after.now)) (sym last))
+  module _ (whole : Result ScriptValue ScriptFault) (first : Bool) (s : Setup) (is : whole ≡ setup_in first s n (script_limit - at) (lines_of (drop at bytes))) where
+    abbrev later : Bool → Setup → Result ScriptValue ScriptFault
+    later f t = setup_in f t (n + 1) (script_limit - next) (lines_of (drop next bytes))
 
-    module _ (other : false ≡ bytes_eq word.now (codes "end")) where
-      at_words : whole ≡ after_lines front (onto_lines (at_line n (of word.now (words_after (option_copied args)))) (body_of of (n + 1) left (lines_of after.now)))
-      at_words =
-          so_far
-          ∙ ap (after_lines front) (body_first bytes n room of r (Some (word, args), after, left) h is
-          ∙ line_then-other of n word.now (words_after (option_copied args)) (body_of of (n + 1) left (lines_of after.now)) (sym other))
+    -- a line of the setup
+    setup_is : is_setup first word ≡ true → whole ≡ (at_line n (setup_line s.start word args) >>= λ line. later false (with_line s line))
+    setup_is test = is ∙ (setup_first bytes at n first s (word ∷ args) next h ∙ rw test refl)
 
-      pub read_more : (first : L) → at_line n (of word.now (words_after (option_copied args))) ≡ Ok first
-          → whole ≡ after_lines (front ++ first ∷ []) (body_of of (n + 1) left (lines_of after.now))
-      read_more first there =
-          at_words ∙ after_lines-onto_lines front (at_line n (of word.now (words_after (option_copied args)))) first (body_of of (n + 1) left (lines_of after.now)) there
+    pub setup_more : (line : SetupLine) → is_setup first word ≡ true → at_line n (setup_line s.start word args) ≡ Ok line
+        → whole ≡ setup_in false (with_line s line) (n + 1) (script_limit - next) (lines_of (drop next bytes))
+    setup_more line test there = setup_is test ∙ ap (λ r. r >>= λ line. later false (with_line s line)) there
 
-      pub read_wrong : (fault : ScriptFault) → at_line n (of word.now (words_after (option_copied args))) ≡ Err fault → whole ≡ Err fault
-      read_wrong fault there =
-          at_words
-          ∙ ap (after_lines front) (onto_lines-wrong (at_line n (of word.now (words_after (option_copied args)))) fault (body_of of (n + 1) left (lines_of after.now)) there)
+    pub setup_wrong : (fault : ScriptFault) → is_setup first word ≡ true → at_line n (setup_line s.start word args) ≡ Err fault → whole ≡ Err fault
+    setup_wrong fault test there = setup_is test ∙ ap (λ r. r >>= λ line. later false (with_line s line)) there
+
+    -- another line: the body begins
+    pub setup_ends : is_setup first word ≡ false → whole ≡ with_lines s (body_at line_of bytes at n)
+    setup_ends test = is ∙ (setup_first bytes at n first s (word ∷ args) next h ∙ rw test refl)
+
+abbrev pub setup_with : Start → List FaultLine → Setup
+setup_with start faults = record { start = start; faults = faults }
+
+pub setup_same : (a b : Start) (xs ys : List FaultLine) → a ≡ b → xs ≡ ys → setup_with a xs ≡ setup_with b ys
+setup_same a b xs ys e f = ap (λ s. setup_with s xs) e ∙ ap (setup_with b) f
+
+-- What a loop over the lines of the setup has read before a line, and then after it.
+module _ (bytes : List ℕ) (at n next : ℕ) (whole : Result ScriptValue ScriptFault) (first : Bool) (s : Setup) (said : Option (Bor (List ℕ) × Option (Bor (List ℕ))))
+    (is : whole ≡ setup_in first s n (script_limit - at) (lines_of (drop at bytes))) (h : HasLine bytes at (words_read said) next) where
+  pub setup_goes_on : (word : Bor (List ℕ)) (args : Option (Bor (List ℕ))) (line : SetupLine) (first₂ : Bool) (s₂ : Setup) → said ≡ Some (word, args) → is_setup first word.now ≡ true
+      → at_line n (setup_line s.start word.now (words_after (option_copied args))) ≡ Ok line → first₂ ≡ false → with_line s line ≡ s₂
+      → whole ≡ setup_in first₂ s₂ (n + 1) (script_limit - next) (lines_of (drop next bytes))
+  setup_goes_on word args line first₂ s₂ some test there later after =
+      let found = subst (λ x. HasLine bytes at (words_read x) next) some h in
+      setup_more bytes at n word.now (words_after (option_copied args)) next found whole first s is line test there
+      ∙ (ap (λ t. setup_in false t (n + 1) (script_limit - next) (lines_of (drop next bytes))) after
+      ∙ ap (λ f. setup_in f s₂ (n + 1) (script_limit - next) (lines_of (drop next bytes))) (sym later))
+
+  pub setup_skips : (first₂ : Bool) (s₂ : Setup) → said ≡ None → first₂ ≡ first → s ≡ s₂ → whole ≡ setup_in first₂ s₂ (n + 1) (script_limit - next) (lines_of (drop next bytes))
+  setup_skips first₂ s₂ none same after =
+      let found = subst (λ x. HasLine bytes at (words_read x) next) none h in
+      is ∙ (setup_first bytes at n first s [] next found
+      ∙ (ap (λ t. setup_in first t (n + 1) (script_limit - next) (lines_of (drop next bytes))) after
+      ∙ ap (λ f. setup_in f s₂ (n + 1) (script_limit - next) (lines_of (drop next bytes))) (sym same)))

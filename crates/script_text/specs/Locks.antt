@@ -1,13 +1,11 @@
 -- The grammar of the scripts of a lock space. They have no header. `Err` is outside it, and tells what is
 -- wrong with a line: its first kind, in the order long, utf8, word, count, number, range, no-end.
-use Rattle.std.specs.Prelude.{◌≡◌, ℕ, ◌<◌, nat_lt, Bool, true, ◌&&◌, is_some, if◌then◌else◌, List, [], ◌∷◌, codes, Option, Some, None, Result, Ok, Err, ok_or}
+use Rattle.std.specs.Prelude.{◌≡◌, ℕ, ◌<◌, nat_lt, ◌&&◌, if◌then◌else◌, List, codes, Option, Some, None, Result, Ok, Err, ok_or}
 use Rattle.std.specs.Result.{result_ok}
 use Rattle.std.specs.Str.{bytes_eq}
 use Rattle.dlm_modes.specs.declared.mode.Mode.{Mode}
-use Rattle.dlm_modes.specs.declared.mode.Mode.TheVariants as modes
-use Rattle.mdc_types.specs.Resources.{IsResource, word_of}
+use Rattle.mdc_types.specs.Resources.{IsResource}
 use Rattle.mdc_types.specs.declared.resources.Res.{Res}
-use Rattle.mdc_types.specs.declared.resources.Res.TheVariants as resources
 use Rattle.script_text.specs.declared.locks.LockLine.{LockLine}
 use Rattle.script_text.specs.declared.locks.LockLine.TheVariants as calls
 use Rattle.script_text.specs.declared.faults.ScriptEnd.{ScriptEnd}
@@ -16,41 +14,11 @@ use Rattle.script_text.specs.declared.faults.ScriptFault.{ScriptFault}
 use Rattle.script_text.specs.declared.faults.FaultKind.{FaultKind}
 use Rattle.script_text.specs.declared.faults.FaultKind.TheVariants as kinds
 use Rattle.script_text.specs.Judging.{◌>>=◌}
-use Rattle.script_text.specs.Lines.{lines_of, script_limit, one, two, three, first, second, third}
-use Rattle.script_text.specs.Script.{byte_word, body_of, fault_in}
+use Rattle.script_text.specs.Lines.{lines_of, script_limit, one, two, three, second, third}
+use Rattle.script_text.specs.Arguments.{byte_word, res_word, mode_word, fits_res, fits_mode, fitting, one_res}
+use Rattle.script_text.specs.Script.{body_of, fault_in}
 
--- The words of resources, modes and nodes.
-
--- by number
-abbrev pub all_resources : List Res
-all_resources =
-    resources.Bitmap 0 ∷ resources.Bitmap 1 ∷ resources.Bitmap 2 ∷ resources.Bitmap 3 ∷ resources.Bitmap 4 ∷ resources.Bitmap 5 ∷ resources.Bitmap 6 ∷ resources.Bitmap 7
-    ∷ resources.Bitmap 8 ∷ resources.Bitmap 9 ∷ resources.Bitmap 10 ∷ resources.Bitmap 11 ∷ resources.Bitmap 12 ∷ resources.Bitmap 13 ∷ resources.Bitmap 14 ∷ resources.Bitmap 15
-    ∷ resources.Token ∷ resources.Message ∷ resources.Ack ∷ resources.NoNewDev ∷ resources.Resync ∷ []
-
--- the one of these whose word it is
-abbrev pub res_among : List Res → List ℕ → Option Res
-res_among [] word = None
-res_among (res ∷ others) word = if bytes_eq word (word_of res) then Some res else res_among others word
-
-abbrev pub res_of : List ℕ → Option Res
-res_of word = res_among all_resources word
-
-abbrev pub mode_of : List ℕ → Option Mode
-mode_of word =
-    if bytes_eq word (codes "NL") then Some modes.NL
-    else if bytes_eq word (codes "CR") then Some modes.CR
-    else if bytes_eq word (codes "CW") then Some modes.CW
-    else if bytes_eq word (codes "PR") then Some modes.PR
-    else if bytes_eq word (codes "PW") then Some modes.PW
-    else if bytes_eq word (codes "EX") then Some modes.EX
-    else None
-
-abbrev pub res_word : List ℕ → Result Res FaultKind
-res_word word = ok_or (res_of word) kinds.Word
-
-abbrev pub mode_word : List ℕ → Result Mode FaultKind
-mode_word word = ok_or (mode_of word) kinds.Word
+-- The words.
 
 -- there are sixteen nodes
 abbrev pub node_in : ℕ → Result ℕ FaultKind
@@ -58,19 +26,6 @@ node_in n = if nat_lt n 16 then Ok n else Err kinds.Range
 
 abbrev pub node_word : List ℕ → Result ℕ FaultKind
 node_word word = byte_word word >>= node_in
-
--- A word that is there and names no resource, or no mode, is told before the words are counted.
-
-abbrev pub fits_res : Option (List ℕ) → Bool
-fits_res None = true
-fits_res (Some word) = is_some (res_of word)
-
-abbrev pub fits_mode : Option (List ℕ) → Bool
-fits_mode None = true
-fits_mode (Some word) = is_some (mode_of word)
-
-abbrev pub fitting : Bool → Result (Unit {0}) FaultKind
-fitting fits = if fits then Ok tt else Err kinds.Word
 
 -- The lines, over the words that follow the first.
 
@@ -92,13 +47,6 @@ node_res args = do
   node ← node_word words.0
   res ← res_word words.1
   Ok (node, res)
-
--- `RES`
-abbrev pub one_res : List (List ℕ) → Result Res FaultKind
-one_res args = do
-  fits ← fitting (fits_res (first args))
-  word ← ok_or (one args) kinds.Count
-  res_word word
 
 -- `N`
 abbrev pub one_node : List (List ℕ) → Result ℕ FaultKind

@@ -25,3 +25,9 @@ WroteFront old bytes new = (n : ℕ) × (n < length bytes) × (new ≡ with_back
 abbrev pub TookOfPart : Option (List ℕ) → Option (List ℕ) → Type 0
 TookOfPart None new = new ≡ None
 TookOfPart (Some left) new = (n : ℕ) × (Some left ≡ with_front (take n (input_part left)) new)
+
+-- a front of the text was written since, and these bytes of it wait
+pub record IsDue (before : Option (List ℕ)) (text waiting : List ℕ) (now : Option (List ℕ)) : Type 0 where
+  pub front : List ℕ
+  pub text_is : text ≡ front ++ waiting
+  pub written : now ≡ with_back before front

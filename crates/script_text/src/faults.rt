@@ -14,8 +14,8 @@ pub enum FaultKind {
     Utf8,
     /// A header is due, and the line begins with another word or all lines are read.
     NoArray,
-    /// No line that may stand here begins with this word, or a word that is due to be a resource or a
-    /// mode is none.
+    /// No line that may stand here begins with this word, or a word that is due to be one of a few, as a
+    /// resource, a mode or a wish, is none of them.
     Word,
     /// The line has too few words, or too many.
     Count,
@@ -23,7 +23,7 @@ pub enum FaultKind {
     Number,
     /// A word is due to be a value and is none.
     Value,
-    /// The numbers of the header are those of no array, or a lock script's node is over 15.
+    /// The numbers of the header and its lines are those of no array, or a lock script's node is over 15.
     Range,
     /// All lines are read, and none is `end`.
     NoEnd,

@@ -2,10 +2,11 @@
 //!
 //! A script is lines of UTF-8, each ended by a line feed, which the last may lack. Words are parted by
 //! one space. An empty line, and one that begins with `#`, are skipped. The first other line is the
-//! header `warm LEGS SECTORS CHUNK NODES`: there are 1 to 8 nodes, and `Geometry::new` takes the
-//! sizes. Then come the lines of events, `w N S V`, `out N K L`, `ok N K`, `r N S` and `in N K`, and
-//! the query `check`. The line `end` ends the script, and what follows isn't judged. Up to the line feed of that line a
-//! script holds at most 16,777,216 bytes.
+//! header, `array LEGS SECTORS CHUNK NODES`, `warm`, `array2` or `warm2` with the same numbers. Just
+//! after it a line `room R` may stand, and then lines `spare L` and `fault L T old|new`. Then come the
+//! lines of events, one form for each event of `mdc_types`, and the queries `view N`, `map N`,
+//! `slot L D`, `record`, `size N` and `check`. The line `end` ends the script, and what follows isn't
+//! judged. Up to the line feed of that line a script holds at most 16,777,216 bytes.
 //!
 //! Numbers are decimal, without leading zeros, and have 32 bits; those of nodes and legs have 8. A
 //! value is `-`, which is empty, or 2 to 1,024 lower-case hexadecimal digits, an even number of them.
@@ -20,6 +21,7 @@
 //! Of bytes that are no script the first line outside the grammar is told, and what is wrong with it.
 #![tactic(auto)]
 
+mod arguments;
 mod command;
 mod events;
 mod faults;
@@ -29,11 +31,13 @@ mod lines;
 mod locks;
 mod memory;
 mod numbers;
+mod queries;
 mod reading;
 mod script;
 mod sink;
 mod source;
 mod std_io;
+mod text_out;
 
 pub use command::{Command, WordsEnd, read_words};
 pub use faults::{FaultKind, ScriptEnd, ScriptFault};
@@ -41,10 +45,11 @@ pub use input::{InputEnd, read_input};
 pub use locks::{LockLine, LockScript, read_locks};
 pub use memory::{MemSink, MemSource};
 pub use reading::{part_is_judged_as_all, read_script};
-pub use script::{Line, Script, Start};
+pub use script::{FaultLine, Line, Script, Start};
 pub use sink::{Sink, write_all};
 pub use source::Source;
 pub use std_io::{StdSink, StdSource};
+pub use text_out::TextOut;
 
 #[cfg(test)]
 mod tests;

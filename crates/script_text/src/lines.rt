@@ -10,14 +10,14 @@ fn line_feed(bytes: &[u8]) -> Option<usize>
     bytes.iter().position(|b| *b == b'\n')
 }
 
-/// The text of the first line, without its line feed, and the bytes after the line.
-pub(crate) fn split_line(bytes: &[u8]) -> (&[u8], &[u8])
+/// The text of the first line, without its line feed, and how many bytes the line has with it.
+pub(crate) fn split_line(bytes: &[u8]) -> (&[u8], usize)
     requires { 0 < length bytes.now }
-    ensures { BeginsWithLine bytes.now result.0.now result.1.now }
+    ensures { BeginsWithLine bytes.now result.0.now result.1 }
 {
     match line_feed(bytes) {
-        Some(at) => (&bytes[..at], &bytes[at + 1..]),
-        None => bytes.split_at(bytes.len()),
+        Some(at) => (&bytes[..at], at + 1),
+        None => (bytes, bytes.len()),
     }
 }
 

@@ -2,15 +2,17 @@ ghost use Rattle.std.specs.Prelude.{◌≡◌, IfOk};
 ghost use Rattle.std.specs.List.{AllByRecursion};
 ghost use Rattle.std.specs.Option.{option_copied};
 ghost use Rattle.script_text.specs.Lines.{words_after};
-ghost use Rattle.script_text.specs.Locks.{res_of, mode_of, res_word, mode_word, node_word, fits_res, fits_mode, node_res_mode, node_res, one_res, one_node, lock_line_of, IsLockLine, ReadsLocks};
+ghost use Rattle.script_text.specs.Locks.{node_word, node_res_mode, node_res, one_node, lock_line_of, IsLockLine, ReadsLocks};
+ghost use Rattle.script_text.specs.Places.{lines_at, AreLines};
 
-use crate::lines::{first, one, second, third, three, two};
+use crate::arguments::{fits_mode, fits_res, mode_word, one_res, res_word};
+use crate::lines::{one, second, third, three, two};
 use crate::numbers::byte_word;
-use crate::reading::{SCRIPT_LIMIT, ScriptLine, read_lines};
+use crate::reading::{ScriptLine, line_at, read_places};
 use crate::{FaultKind, ScriptEnd};
 use dlm_modes::Mode;
 use mdc_types::{NodeId, Res};
-use std::alloc::Global;
+use std::alloc::{AllocError, Global};
 use std::marker::Model;
 
 // Of a lock space.
@@ -61,61 +63,6 @@ impl LockScript {
     }
 }
 
-fn res(word: &str) -> Option<Res>
-    ensures { result ≡ res_of word.now }
-{
-    match word {
-        "bitmap000" => Some(Res::Bitmap(0)),
-        "bitmap001" => Some(Res::Bitmap(1)),
-        "bitmap002" => Some(Res::Bitmap(2)),
-        "bitmap003" => Some(Res::Bitmap(3)),
-        "bitmap004" => Some(Res::Bitmap(4)),
-        "bitmap005" => Some(Res::Bitmap(5)),
-        "bitmap006" => Some(Res::Bitmap(6)),
-        "bitmap007" => Some(Res::Bitmap(7)),
-        "bitmap008" => Some(Res::Bitmap(8)),
-        "bitmap009" => Some(Res::Bitmap(9)),
-        "bitmap010" => Some(Res::Bitmap(10)),
-        "bitmap011" => Some(Res::Bitmap(11)),
-        "bitmap012" => Some(Res::Bitmap(12)),
-        "bitmap013" => Some(Res::Bitmap(13)),
-        "bitmap014" => Some(Res::Bitmap(14)),
-        "bitmap015" => Some(Res::Bitmap(15)),
-        "token" => Some(Res::Token),
-        "message" => Some(Res::Message),
-        "ack" => Some(Res::Ack),
-        "no-new-dev" => Some(Res::NoNewDev),
-        "resync" => Some(Res::Resync),
-        _ => None,
-    }
-}
-
-fn mode(word: &str) -> Option<Mode>
-    ensures { result ≡ mode_of word.now }
-{
-    match word {
-        "NL" => Some(Mode::NL),
-        "CR" => Some(Mode::CR),
-        "CW" => Some(Mode::CW),
-        "PR" => Some(Mode::PR),
-        "PW" => Some(Mode::PW),
-        "EX" => Some(Mode::EX),
-        _ => None,
-    }
-}
-
-fn res_word(word: &str) -> Result<Res, FaultKind>
-    ensures { result ≡ res_word word.now }
-{
-    res(word).ok_or(FaultKind::Word)
-}
-
-fn mode_word(word: &str) -> Result<Mode, FaultKind>
-    ensures { result ≡ mode_word word.now }
-{
-    mode(word).ok_or(FaultKind::Word)
-}
-
 fn node_word(word: &str) -> Result<NodeId, FaultKind>
     ensures { result ≡ node_word word.now }
 {
@@ -124,25 +71,6 @@ fn node_word(word: &str) -> Result<NodeId, FaultKind>
         return Err(FaultKind::Range);
     }
     Ok(node)
-}
-
-// A word that is missing is told by the count.
-fn fits_res(word: Option<&str>) -> bool
-    ensures { result ≡ fits_res (option_copied word.entry) }
-{
-    match word {
-        None => true,
-        Some(word) => res(word).is_some(),
-    }
-}
-
-fn fits_mode(word: Option<&str>) -> bool
-    ensures { result ≡ fits_mode (option_copied word.entry) }
-{
-    match word {
-        None => true,
-        Some(word) => mode(word).is_some(),
-    }
 }
 
 fn node_res_mode(args: Option<&str>) -> Result<(NodeId, Res, Mode), FaultKind>
@@ -163,15 +91,6 @@ fn node_res(args: Option<&str>) -> Result<(NodeId, Res), FaultKind>
     }
     let (node, res) = two(args).ok_or(FaultKind::Count)?;
     Ok((node_word(node)?, res_word(res)?))
-}
-
-fn one_res(args: Option<&str>) -> Result<Res, FaultKind>
-    ensures { result ≡ one_res (words_after (option_copied args.entry)) }
-{
-    if !fits_res(first(args)) {
-        return Err(FaultKind::Word);
-    }
-    res_word(one(args).ok_or(FaultKind::Count)?)
 }
 
 fn one_node(args: Option<&str>) -> Result<NodeId, FaultKind>
@@ -216,6 +135,21 @@ impl ScriptLine for LockLine {
     }
 }
 
+// The lines at these places.
+fn lines_at(alloc: Global, bytes: &[u8], places: &[u32]) -> Result<Vec<LockLine>, AllocError>
+    requires { AreLines lock_line_of bytes.now places.now }
+    ensures { IfOk result (λ lines. lines.items ≡ lines_at lock_line_of bytes.now places.now) }
+{
+    let mut lines = Vec::with_capacity(alloc, places.len())?;
+    for at in places {
+        match line_at::<LockLine>(bytes, *at) {
+            Some(line) => lines.push(line)?,
+            None => unreachable!(),
+        }
+    }
+    Ok(lines)
+}
+
 /// Reads a lock script. What follows its line `end` isn't judged.
 pub fn read_locks(alloc: Global, bytes: &[u8]) -> Result<LockScript, ScriptEnd>
     // It is this script, or the bytes have this fault, or memory is wanting.
@@ -224,6 +158,9 @@ pub fn read_locks(alloc: Global, bytes: &[u8]) -> Result<LockScript, ScriptEnd>
     // Its lines are of nodes below 16.
     ensures lines { IfOk result (λ lines. AllByRecursion IsLockLine lines) }
 {
-    let lines = read_lines::<LockLine>(alloc, bytes, 1, SCRIPT_LIMIT)?;
-    Ok(LockScript { lines })
+    let places = read_places::<LockLine>(alloc, bytes, 0, 1)?;
+    match lines_at(alloc, bytes, &places) {
+        Ok(lines) => Ok(LockScript { lines }),
+        Err(_) => Err(ScriptEnd::Memory),
+    }
 }

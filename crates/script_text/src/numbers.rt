@@ -1,6 +1,6 @@
 ghost use Rattle.std.specs.Prelude.{◌≡◌, [], ◌*◌, ◌/◌, ◌%◌, ◌<◌, ◌≤◌, length, take, drop, Some, None, IfSome, OnSome, MatchOption};
 ghost use Rattle.std.specs.Option.{option_map};
-ghost use Rattle.script_text.specs.Script.{number_word, byte_word, value_word};
+ghost use Rattle.script_text.specs.Arguments.{number_word, byte_word, value_word};
 ghost use Rattle.script_text.specs.Numbers.{number_of, byte_of, hex_digit, hex_bytes, sector_of, value_of};
 
 use crate::FaultKind;

@@ -1,18 +1,21 @@
-ghost use Rattle.std.specs.Prelude.{◌≡◌, ℕ, ◌+◌, ◌<◌, ◌≤◌, List, [], true, false, is_ok, length, Ok, Err, IfOk, Result};
+ghost use Rattle.std.specs.Prelude.{◌≡◌, ℕ, ◌+◌, ◌<◌, ◌≤◌, List, true, false, is_ok, length, IfOk, Result, if◌then◌else◌};
 ghost use Rattle.std.specs.List.{AllByRecursion};
 ghost use Rattle.std.specs.Option.{option_copied};
-ghost use Rattle.std.specs.Result.{result_err};
-ghost use Rattle.mdc_types.specs.Geometry.{geometry_of};
+ghost use Rattle.mdc_types.specs.Bits.{has_bit};
 ghost use Rattle.script_text.specs.declared.faults.FaultKind.{FaultKind};
-ghost use Rattle.script_text.specs.Lines.{lines_of, words_after, input_part, script_limit};
+ghost use Rattle.script_text.specs.Lines.{words_after, input_part, script_limit};
 ghost use Rattle.script_text.specs.Locks.{lock_script_of, lock_fault_of};
-ghost use Rattle.script_text.specs.Script.{Reads, end_of, body_of, line_of, script_of, fault_of, words_said, is_event_line};
-ghost use Rattle.script_text.specs.Reading.{words_read, extra_words, ReadsLine, ReadsStart, Gives};
+ghost use Rattle.script_text.specs.Header.{start_sizes, most_nodes};
+ghost use Rattle.script_text.specs.Script.{Reads, new_setup, script_of, fault_of, words_said};
+ghost use Rattle.script_text.specs.Places.{line_at};
+ghost use Rattle.script_text.specs.Reading.{words_read, ReadsLine, ReadsStart, ReadsSetup, ReadsPlaces, setup_at, body_at};
 
+use crate::arguments::alone;
 use crate::faults::at_line;
-use crate::header::start;
+use crate::header::{SetupLine, is_setup, setup_line, start};
 use crate::lines::{split_line, split_word};
-use crate::{FaultKind, Line, Script, ScriptEnd, ScriptFault, Start};
+use crate::{FaultKind, FaultLine, Line, Script, ScriptEnd, ScriptFault, Start};
+use mdc_types::with_leg;
 use std::alloc::Global;
 
 /// The most bytes that a script holds, up to the line feed of its line `end`.
@@ -30,20 +33,20 @@ fn said(text: &str) -> Said<'_>
     Some(split_word(text))
 }
 
-// What the first line says, the bytes after it, and how many bytes the script may still have there.
-fn next_line(bytes: &[u8], room: usize) -> Result<(Said<'_>, &[u8], usize), FaultKind>
-    requires { 0 < length bytes.now }
-    ensures { ReadsLine bytes.now room result }
+// What the line that begins at `at` says, and where the next begins.
+fn next_line(bytes: &[u8], at: usize) -> Result<(Said<'_>, usize), FaultKind>
+    requires { at < length bytes.now }
+    ensures { ReadsLine bytes.now at result }
 {
-    let (text, rest) = split_line(bytes);
-    let len = bytes.len() - rest.len();
-    if len > room {
+    let (_, rest) = bytes.split_at(at);
+    let (text, len) = split_line(rest);
+    if len > SCRIPT_LIMIT.saturating_sub(at) {
         return Err(FaultKind::Long);
     }
     let Ok(text) = str::from_utf8(text) else {
         return Err(FaultKind::Utf8);
     };
-    Ok((said(text), rest, room - len))
+    Ok((said(text), at + len))
 }
 
 /// What stands in the lines of a script, after its header if it has one.
@@ -56,24 +59,36 @@ pub(crate) trait ScriptLine {
         ensures { result ≡ says word.now (words_after (option_copied args.entry)) };
 }
 
-// The array of the header, the bytes after its line, the number of the line there, and how many bytes
-// the script may still have.
-fn read_start(bytes: &[u8]) -> Result<(Start, &[u8], u32, usize), ScriptFault>
-    ensures found { ReadsStart bytes.now result }
-    ensures few { IfOk result (λ x. x.2 + x.3 ≤ script_limit + 1) }
+/// The line that begins at `at`, if one does.
+pub(crate) fn line_at<L: ScriptLine>(bytes: &[u8], at: u32) -> Option<L>
+    ensures { result ≡ line_at L.says bytes.now at }
 {
-    let mut rest = bytes;
+    let at = at as usize;
+    if at >= bytes.len() {
+        return None;
+    }
+    match next_line(bytes, at) {
+        Ok((Some((word, args)), _)) => L::of_words(word, args).ok(),
+        _ => None,
+    }
+}
+
+// The array of the header, where the line after it begins, and that line's number.
+fn read_start(bytes: &[u8]) -> Result<(Start, usize, u32), ScriptFault>
+    ensures found { ReadsStart bytes.now result }
+    ensures legs { IfOk result (λ x. x.0.legs ≤ 8) }
+    ensures few { IfOk result (λ x. (x.2 ≤ x.1 + 1) × (x.1 ≤ script_limit)) }
+{
+    let mut at = 0;
     let mut line = 1;
-    let mut room = SCRIPT_LIMIT;
-    while !rest.is_empty() {
-        let (said, after, left) = at_line(line, next_line(rest, room))?;
+    while at < bytes.len() {
+        let (said, next) = at_line(line, next_line(bytes, at))?;
         if let Some((word, args)) = said {
             let start = at_line(line, start(word, args))?;
-            return Ok((start, after, line + 1, left));
+            return Ok((start, next, line + 1));
         }
-        rest = after;
+        at = next;
         line += 1;
-        room = left;
     }
     Err(ScriptFault {
         line,
@@ -81,43 +96,75 @@ fn read_start(bytes: &[u8]) -> Result<(Start, &[u8], u32, usize), ScriptFault>
     })
 }
 
-// The line `end` has no other words.
-fn end(args: Option<&str>) -> Result<(), FaultKind>
-    ensures { result_err result ≡ extra_words (words_after (option_copied args.entry)) }
-{
-    if args.is_some() {
-        return Err(FaultKind::Count);
-    }
-    Ok(())
-}
-
-/// The lines, of which the first has this number, up to the line `end`. The script may still have so
-/// many bytes there.
-pub(crate) fn read_lines<L: ScriptLine + Drop>(
+// The array with the lines of the setup that follow the header, the transfers that fail, where the
+// line after them begins, and that line's number.
+fn read_setup(
     alloc: Global,
     bytes: &[u8],
+    start: Start,
+    at: usize,
     line: u32,
-    room: usize,
-) -> Result<Vec<L>, ScriptEnd>
-    requires { line + room ≤ script_limit + 1 }
-    ensures { Gives (λ lines. lines.items) result (body_of L.says line room (lines_of bytes.now)) }
+) -> Result<(Start, Vec<FaultLine>, usize, u32), ScriptEnd>
+    requires few { line ≤ at + 1 }
+    requires room { at ≤ script_limit }
+    requires legs { start.legs ≤ 8 }
+    ensures found { ReadsSetup bytes.now (setup_at bytes.now (new_setup start) at line) result }
+    ensures few { IfOk result (λ x. (x.3 ≤ x.2 + 1) × (x.2 ≤ script_limit)) }
 {
-    let mut lines = Vec::new(alloc);
-    let mut rest = bytes;
+    let mut start = start;
+    let mut faults = Vec::new(alloc);
+    let mut at = at;
     let mut line = line;
-    let mut room = room;
-    while !rest.is_empty() {
-        let (said, after, left) = at_line(line, next_line(rest, room))?;
+    let mut first = true;
+    while at < bytes.len() {
+        let (said, next) = match next_line(bytes, at) {
+            Ok(found) => found,
+            // The fault is told as one of the lines that follow.
+            Err(_) => return Ok((start, faults, at, line)),
+        };
+        if let Some((word, args)) = said {
+            if !is_setup(first, word) {
+                return Ok((start, faults, at, line));
+            }
+            match at_line(line, setup_line(&start, word, args))? {
+                SetupLine::Room(room) => start.room = room,
+                SetupLine::Spare(leg) => start.spares = with_leg(start.spares, leg),
+                SetupLine::Fault(fault) => faults.push(fault)?,
+            }
+            first = false;
+        }
+        at = next;
+        line += 1;
+    }
+    Ok((start, faults, at, line))
+}
+
+/// Where the lines begin from `at` on, where the line of this number does, up to the line `end`.
+pub(crate) fn read_places<L: ScriptLine + Drop>(
+    alloc: Global,
+    bytes: &[u8],
+    at: usize,
+    line: u32,
+) -> Result<Vec<u32>, ScriptEnd>
+    requires few { line ≤ at + 1 }
+    requires room { at ≤ script_limit }
+    ensures { ReadsPlaces L.says bytes.now (body_at L.says bytes.now at line) result }
+{
+    let mut places = Vec::new(alloc);
+    let mut at = at;
+    let mut line = line;
+    while at < bytes.len() {
+        let (said, next) = at_line(line, next_line(bytes, at))?;
         if let Some((word, args)) = said {
             if word == "end" {
-                at_line(line, end(args))?;
-                return Ok(lines);
+                at_line(line, alone((), args))?;
+                return Ok(places);
             }
-            lines.push(at_line(line, L::of_words(word, args))?)?;
+            at_line(line, L::of_words(word, args))?;
+            places.push(at as u32)?;
         }
-        rest = after;
+        at = next;
         line += 1;
-        room = left;
     }
     Err(ScriptEnd::Fault(ScriptFault {
         line,
@@ -126,21 +173,29 @@ pub(crate) fn read_lines<L: ScriptLine + Drop>(
 }
 
 /// Reads a script. What follows its line `end` isn't judged.
-pub fn read_script(alloc: Global, bytes: &[u8]) -> Result<Script, ScriptEnd>
+pub fn read_script(alloc: Global, bytes: &[u8]) -> Result<Script<'_>, ScriptEnd>
     // It is this script, or the bytes have this fault, or memory is wanting.
     ensures reads { Reads result bytes.now }
 
-    // What is read is an array of 1 to 8 nodes without spares, and its lines are queries and events that
-    // scripts have.
-    ensures array { IfOk result (λ s. is_ok (geometry_of s.start.legs s.start.sectors s.start.sectors s.start.chunk false) ≡ true) }
+    // What is read is an array of 1 to 8 nodes, of image version 2 up to 16.
+    ensures array { IfOk result (λ s. is_ok (start_sizes s.start) ≡ true) }
     ensures some_node { IfOk result (λ s. 1 ≤ s.start.nodes) }
-    ensures nodes { IfOk result (λ s. s.start.nodes ≤ 8) }
-    ensures spares { IfOk result (λ s. s.start.spares ≡ 0) }
-    ensures events { IfOk result (λ s. AllByRecursion (λ line. is_event_line line ≡ true) s.lines) }
+    ensures nodes { IfOk result (λ s. s.start.nodes ≤ most_nodes s.start.second) }
+
+    // Spares and failing transfers are those of its legs, and leg 0 is no spare.
+    ensures leg_0 { IfOk result (λ s. has_bit s.start.spares 0 ≡ false) }
+    ensures spares { IfOk result (λ s. (l : ℕ) → has_bit s.start.spares l ≡ true → l < s.start.legs) }
+    ensures faults { IfOk result (λ s. AllByRecursion (λ f. f.leg < s.start.legs) s.faults) }
 {
-    let (start, rest, line, room) = read_start(bytes)?;
-    let lines = read_lines::<Line>(alloc, rest, line, room)?;
-    Ok(Script { start, lines })
+    let (start, at, line) = read_start(bytes)?;
+    let (start, faults, at, line) = read_setup(alloc, bytes, start, at, line)?;
+    let places = read_places::<Line>(alloc, bytes, at, line)?;
+    Ok(Script {
+        start,
+        faults,
+        bytes,
+        places,
+    })
 }
 
 /// A law: what [`read_input`](crate::read_input) takes of an input is judged as all of it would be. It

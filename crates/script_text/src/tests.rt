@@ -1,6 +1,6 @@
 use super::*;
 use dlm_modes::Mode;
-use mdc_types::{Event, Failed, Res, Sector};
+use mdc_types::{Event, Failed, Range, Res, Sector, Wish};
 use std::alloc::Global;
 use std::io;
 use std::io::{ErrorKind, Read, Write};
@@ -51,6 +51,76 @@ const SCRIPTS: &[(&str, &str)] = &[
     ("warm 2 16 4 1\nw 0 5 686\nend\n", "2 value"),
     ("warm 2 16 4 1\nw 0 5 0F\nend\n", "2 value"),
     ("warm 2 16 4 1\nw 0 5 \nend\n", "2 value"),
+    // Headers and what follows them.
+    ("array 2 16 4 8\nend\n", "ok"),
+    ("array2 2 16 4 16\nend\n", "ok"),
+    ("warm2 2 131072 4 16\nend\n", "ok"),
+    ("array2 2 16 4 17\nend\n", "1 range"),
+    ("images\nend\n", "1 no-array"),
+    (
+        "array 3 16 4 1\n\nroom 32\n#\nspare 2\nfault 0 4294967295 new\nspare 1\nfault 2 0 old\nend\n",
+        "ok",
+    ),
+    ("room 32\n", "1 no-array"),
+    ("array 2 16 4 1\nspare 1\nroom 32\nend\n", "3 word"),
+    ("array 2 16 4 1\nroom 32\nroom 32\nend\n", "3 word"),
+    ("array 2 16 4 1\ncheck\nspare 1\nend\n", "3 word"),
+    ("array 2 16 4 1\nr 0 0\nfault 0 0 old\nend\n", "3 word"),
+    ("array 2 16 4 1\nroom 15\nend\n", "2 range"),
+    ("array 2 16 4 1\nroom 131073\nend\n", "2 range"),
+    ("array 2 16 4 1\nroom 122881\nend\n", "2 range"),
+    ("array 2 16 4 1\nroom 122880\nend\n", "ok"),
+    ("array 2 16 4 1\nroom\nend\n", "2 count"),
+    ("array 2 16 4 1\nroom -\nend\n", "2 number"),
+    ("array 2 16 4 1\nspare 0\nend\n", "2 range"),
+    ("array 2 16 4 1\nspare 2\nend\n", "2 range"),
+    ("array 2 16 4 1\nspare 300\nend\n", "2 range"),
+    ("array 2 16 4 1\nspare 1 1\nend\n", "2 count"),
+    ("array 2 16 4 1\nfault 2 0 old\nend\n", "2 range"),
+    ("array 2 16 4 1\nfault 0 0\nend\n", "2 count"),
+    ("array 2 16 4 1\nfault 0 x old\nend\n", "2 number"),
+    ("array 2 16 4 1\nfault x 0 none 1\nend\n", "2 word"),
+    ("array 2 16 4 1\nfault 0 1 old", "3 no-end"),
+    ("array 2 16 4 1\nspare 1", "3 no-end"),
+    // Each event and query.
+    (
+        "array 2 16 4 1\ncut 0 1\nmend 0 1\ndie 0\ngrant token\njoin 0\nload 0 1\nup 0\nleave 0\ntoken 0\nmessage 0\noffer 0 meta\noffer 0 meta spare 1\noffer 0 meta rebuild 1\noffer 0 meta work 1\noffer 0 range 4 8\noffer 0 newdisk 1\noffer 0 remove 1\noffer 0 readd 1\noffer 0 unclean\noffer 0 grow 4294967295\nend\n",
+        "ok",
+    ),
+    (
+        "array 2 16 4 1\nsb 0 1\npublish 0\nfinish 0\nquit 0\ntake 0\nprocessed 0\nresume 0\ndrop 0\nbit 0 0 1\nbreak 0 0\nclear 0 0\nresync 0\ngather 0\npass 0 own\npass 0 full\npass 0 again 1\nci 0\nco 0 1\nsettle 0\ndone 0\nrec 0 1\nslotin 0 0 1\nslotout 0 0 1\nrecovered 0\nlockdev 0\nend\n",
+        "ok",
+    ),
+    (
+        "array 2 16 4 1\nview 255\nmap 0\nslot 255 255\nrecord\nsize 9\ncheck\nend\n",
+        "ok",
+    ),
+    ("array 2 16 4 1\nauto 1\nend\n", "2 word"),
+    ("array 2 16 4 1\nstorm 1 1\nend\n", "2 word"),
+    ("array 2 16 4 1\ncompare\nend\n", "2 word"),
+    ("array 2 16 4 1\nview 256\nend\n", "2 number"),
+    ("array 2 16 4 1\nslot 0\nend\n", "2 count"),
+    ("array 2 16 4 1\nrecord 0\nend\n", "2 count"),
+    ("array 2 16 4 1\nrec 0 256\nend\n", "2 number"),
+    ("array 2 16 4 1\nbit 0 0 256\nend\n", "2 number"),
+    ("array 2 16 4 1\nclear 0 4294967296\nend\n", "2 number"),
+    ("array 2 16 4 1\ngrant bitmap016\nend\n", "2 word"),
+    ("array 2 16 4 1\ngrant\nend\n", "2 count"),
+    ("array 2 16 4 1\ngrant bitmap015\nend\n", "ok"),
+    ("array 2 16 4 1\noffer x\nend\n", "2 count"),
+    ("array 2 16 4 1\noffer x frob\nend\n", "2 word"),
+    ("array 2 16 4 1\noffer 0 meta frob\nend\n", "2 word"),
+    ("array 2 16 4 1\noffer x meta spare\nend\n", "2 count"),
+    ("array 2 16 4 1\noffer 0 meta spare 1 1\nend\n", "2 count"),
+    ("array 2 16 4 1\noffer 256 meta\nend\n", "2 number"),
+    ("array 2 16 4 1\noffer 0 range 4\nend\n", "2 count"),
+    ("array 2 16 4 1\noffer 0 newdisk 256\nend\n", "2 number"),
+    ("array 2 16 4 1\noffer 0 unclean 1\nend\n", "2 count"),
+    ("array 2 16 4 1\npass x frob\nend\n", "2 word"),
+    ("array 2 16 4 1\npass 0\nend\n", "2 count"),
+    ("array 2 16 4 1\npass x own 1\nend\n", "2 count"),
+    ("array 2 16 4 1\npass 0 again\nend\n", "2 count"),
+    ("array 2 16 4 1\npass 0 again x\nend\n", "2 number"),
 ];
 
 #[test]
@@ -125,26 +195,45 @@ fn long_scripts(rt: HostRuntime) -> Result<(), Fail> {
 }
 
 #[test]
-fn read_lines(rt: HostRuntime) -> Result<(), Fail> {
-    let script = read_script(rt.alloc(), b"warm 2 16 4 1\nw 0 5 6869\nend\n")
+fn parts_of_scripts(rt: HostRuntime) -> Result<(), Fail> {
+    let text =
+        "# two legs\narray2 3 16 4 9\nroom 20\nspare 2\nfault 1 7 new\nspare 1\n\nw 0 5 6869\nslot 2 1\noffer 3 range 4 8\nend\n";
+    let script = read_script(rt.alloc(), text.as_bytes())
         .ok()
         .ok_or("a script")?;
     let start = Start {
-        legs: 2,
+        legs: 3,
         sectors: 16,
+        room: 20,
         chunk: 4,
-        nodes: 1,
-        warm: true,
-        spares: 0,
+        nodes: 9,
+        warm: false,
+        second: true,
+        spares: 0b110,
     };
     assert_eq!(rt; *script.start(), start);
+    assert_eq!(rt; script.start().geometry().room(), 20);
+    let fault = FaultLine {
+        leg: 1,
+        transfer: 7,
+        new: true,
+    };
+    assert_eq!(rt; script.faults(), [fault].as_slice());
+    assert_eq!(rt; script.len(), 3);
     let mut value = Sector::ZERO;
     value.bytes[0] = b'h';
     value.bytes[1] = b'i';
-    let [Line::Event(Event::AskWrite(0, 5, written))] = script.lines() else {
+    let Line::Event(Event::AskWrite(0, 5, written)) = script.line(0) else {
         return Err("a write".into());
     };
-    assert_eq!(rt; *written, value);
+    assert_eq!(rt; written, value);
+    let Line::Slot { leg: 2, node: 1 } = script.line(1) else {
+        return Err("a slot".into());
+    };
+    let Line::Event(Event::Offer(3, Wish::Range(range))) = script.line(2) else {
+        return Err("an offer".into());
+    };
+    assert_eq!(rt; range, Range { lo: 4, hi: 8 });
     let script = read_locks(rt.alloc(), b"up 7 message PR\ndie 9\nend\n")
         .ok()
         .ok_or("a script")?;

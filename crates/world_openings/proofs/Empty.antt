@@ -1,8 +1,8 @@
 -- Nobody is in.
 use Rattle.std.proofs.Common.{◌≡◌, ℕ, Bool, true, false, if◌then◌else◌, ◌&&◌, ◌==◌, refl, ap, sym, ◌∙◌, [], None}
 use Rattle.std.proofs.Math.Path.{fun_ext}
-use Rattle.dlm_modes.specs.declared.mode.Mode.TheVariants.{CR, PW}
-use Rattle.dlm_space.specs.Locks.{Lock, new_lock, new_locks}
+use Rattle.dlm_modes.specs.declared.mode.Mode.TheVariants.{CR}
+use Rattle.dlm_space.specs.Locks.{new_lock, new_locks}
 use Rattle.md_superblock.specs.Arrays.{Array}
 use Rattle.msg_rounds.specs.Locks.{ack_res}
 use Rattle.node_member.specs.Members.{Members, new_members}
@@ -32,6 +32,7 @@ no_locks : locks_with (λ n. false) ≡ new_locks
 no_locks = fun_ext (λ r. either_way (r == ack_res) new_lock _ (sym_inner r) ∙ inner r) where
   inner : (r : ℕ) → (if r == no_new_dev then held_with (λ n. false) CR else slot_with (λ n. false) r) ≡ new_lock
   inner r = either_way (r == no_new_dev) new_lock (slot_with (λ n. false) r) (sym (no_slot r)) ∙ no_slot r
+
   sym_inner : (r : ℕ) → new_lock ≡ (if r == no_new_dev then held_with (λ n. false) CR else slot_with (λ n. false) r)
   sym_inner r = sym (inner r)
 

@@ -1,14 +1,12 @@
 -- The opening of a header is in range.
-use Rattle.std.proofs.Common.{◌≡◌, ℕ, zero, suc, ◌+◌, ◌≤◌, ◌<◌, ◌^◌, Bool, true, false, refl, arith, inl, inr, ◌∙◌, if◌then◌else◌, nat_lt, ◌&&◌, not}
-use Rattle.std.specs.Prelude.{is_some}
+use Rattle.std.proofs.Common.{◌≡◌, ℕ, ◌≤◌, ◌<◌, ◌^◌, Bool, true, false, refl, arith, inl, inr, ◌∙◌}
 use Rattle.std.proofs.Math.Nat.{pow-le-pow_right, one-le-pow}
 use Rattle.std.proofs.lemmas.Bool.Decides.{nat_tests}
 use Rattle.std.proofs.lemmas.Nat.Bits.{bit_at-zero}
 use Rattle.mdc_types.specs.Bits.{has_bit}
 use Rattle.mdc_types.specs.Geometry.{Sizes, IsGeometry, nodes_of}
-use Rattle.mdc_types.specs.Names.{is_name, name_length}
-use Rattle.mdc_types.specs.Roles.{role_of, is_working, some_works, eight}
-use Rattle.mdc_types.specs.declared.roles.Role.{Role}
+use Rattle.mdc_types.specs.Names.{name_length}
+use Rattle.mdc_types.specs.Roles.{role_of, some_works, eight}
 use Rattle.mdc_types.specs.declared.roles.Role.TheVariants.{Spare, Working}
 use Rattle.mdc_types.proofs.RolesLaws.{role_of-eight, role_of-eight_past, some_works-leg}
 use Rattle.std.proofs.lemmas.Bool.{cases_lt}

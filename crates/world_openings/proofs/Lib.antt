@@ -1,3 +1,5 @@
 mod Headers
 mod Empty
 mod Members
+mod Written
+pub mod HeaderLegs

@@ -22,7 +22,7 @@ use Rattle.node_bits.specs.Bitmaps.{opened}
 use Rattle.cluster_model.specs.State.{Core}
 use Rattle.cluster_model.specs.Opening.{Origin, core_at, is_member}
 use Rattle.cluster_model.specs.Changes.{no_new_dev, no_view}
-use Rattle.world_openings.specs.Members.{opened_with, locks_with, held_with, slot_with, bits_with}
+use Rattle.world_openings.specs.Members.{opened_with, locks_with, held_with, slot_with}
 
 push : {A : Type 0} (f : Bool → A) (b x : Bool) → f (if b then true else x) ≡ (if b then f true else f x)
 push f true x = refl
@@ -192,7 +192,6 @@ module _ (o : Origin) (a b c d : Core) (v : NodeView) (n : ℕ) (lt : n < 16) (p
     (q : b ≡ record a { state = with_at a.state n Up })
     (r : c ≡ record b { view = with_at b.view n v })
     (s : d ≡ record c { locks = with_at c.locks n (holding (c.locks n) n PW) }) where
-
   c_locks : c.locks ≡ locks_with (below (is_member o) n)
   c_locks = ap (λ k. k.locks) r ∙ ap (λ k. k.locks) q ∙ ap (λ k. k.locks) p
 

@@ -50,14 +50,18 @@ fn take(core: &mut CoreState, n: NodeId, res: Res, mode: Mode)
     requires node { n < 16 }
     requires res { IsResource res }
     requires free { ask_now_refusal ((core_of core.old).locks (number_of res)) n mode ≡ None }
-    ensures { core_of core.new ≡ record (core_of core.old) { locks = with_at (core_of core.old).locks (number_of res) (holding ((core_of core.old).locks (number_of res)) n mode) } }
+    ensures { let old = core_of core.old in let r = number_of res in
+        core_of core.new
+        ≡ record old { locks = with_at old.locks r (holding (old.locks r) n mode) } }
 {
     let _ = core.space.ask_now(n, res.number(), mode);
 }
 
 fn open_bits(core: &mut CoreState, n: NodeId, warm: bool)
     requires { n < 16 }
-    ensures { core_of core.new ≡ record (core_of core.old) { bitmap = with_at (core_of core.old).bitmap n (opened core.old.identity.geometry warm) } }
+    ensures { let old = core_of core.old in
+        core_of core.new
+        ≡ record old { bitmap = with_at old.bitmap n (opened old.array.sizes warm) } }
 {
     core.bitmaps.open_member(n, warm);
 }
@@ -66,8 +70,10 @@ fn open_bits(core: &mut CoreState, n: NodeId, warm: bool)
 fn bring_in(core: &mut CoreState, opening: &Opening, n: NodeId)
     requires node { n < nodes_of opening.now.sizes }
     requires member { is_member opening.now n ≡ true }
-    requires others { core_of core.old ≡ opened_with opening.now (λ m. is_member opening.now m && nat_lt m n) }
-    ensures { core_of core.new ≡ opened_with opening.now (λ m. is_member opening.now m && nat_lt m (n + 1)) }
+    requires others { let o = opening.now in
+        core_of core.old ≡ opened_with o (λ m. is_member o m && nat_lt m n) }
+    ensures { let o = opening.now in
+        core_of core.new ≡ opened_with o (λ m. is_member o m && nat_lt m (n + 1)) }
 {
     core.set_state(n, NodeState::Up);
     core.replace_view(n, View::new(opening.roles(), opening.geometry().sectors()));

@@ -76,7 +76,8 @@ fn header_roles(legs: u8, spares: u8) -> Roles
 
 // One list of candidates for each sector: zero alone.
 fn zero_base(alloc: Global, sectors: u32) -> Result<Vec<Vec<Sector>>, AllocError>
-    ensures { IfOk result (λ base. map (λ values. values.items) base.items ≡ replicate sectors (zero_sector ∷ [])) }
+    ensures { IfOk result (λ base.
+        map (λ values. values.items) base.items ≡ replicate sectors (zero_sector ∷ [])) }
 {
     let mut base = Vec::with_capacity(alloc, sectors as usize)?;
     for s in 0..sectors {
@@ -182,6 +183,13 @@ impl Opening {
             name: self.name,
             uuid: self.uuid,
         }
+    }
+
+    /// The uuid of the array.
+    pub fn uuid(&self) -> [u8; 16]
+        ensures { result ≡ self.now.uuid }
+    {
+        self.uuid
     }
 
     /// The nodes that are members, one bit each.

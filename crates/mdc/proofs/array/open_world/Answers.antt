@@ -1,24 +1,24 @@
-use Rattle.std.proofs.Common.{◌≡◌, ◌∙◌, ap}
-use Rattle.std.specs.Prelude.{replicate}
-use Rattle.mdc_types.specs.Geometry.{length_of}
-use Rattle.mdc.specs.Blank.{blank_leg}
-use Rattle.mdc.proofs.Blanks.{blank_fits, blank_base, blank_told}
+use Rattle.std.proofs.Common.{inl, refl, sym, subst, ap, ◌∙◌, ◌≤◌}
+use Rattle.mdc_types.specs.Geometry.{Sizes, nodes_of}
+use Rattle.cluster_model.specs.Opening.{header_at}
+use Rattle.mdc.specs.Opened.{origin_of, sizes_of}
+use Rattle.mdc.proofs.Header.{new_fits, new_header, starts_of}
 use Rattle.mdc.proofs.array.open_world.Goals as goal
 
 pub open-requires-clause-fits : goal.open-requires-clause-fits
-open-requires-clause-fits c =
-    let g = c.geometry_of-geometry.result in
-    let legs : c.in_ok-legs.legs.items ≡ replicate g.legs (blank_leg (length_of g)) =
-    c.in_ok-legs.ensures
-    ∙ ap (λ n. replicate n (blank_leg c.length.result)) c.legs.ensures.value
-    ∙ ap (λ n. replicate g.legs (blank_leg n)) c.length.ensures in
-    let sizes : c.in_ok-opening.opening.sizes ≡ g = ap (λ o. o.sizes) c.in_ok-opening.ensures.value in
-    rw sizes (blank_fits g c.in_ok-legs.legs.items legs)
+open-requires-clause-fits c = new_fits c.in_ok-opening.opening c.faults.result.now c.in_ok-legs.legs.items c.in_ok-legs.ensures
 
-pub open-requires-clause-base : goal.open-requires-clause-base
-open-requires-clause-base c = rw c.in_ok-opening.ensures.value (blank_base c.geometry_of-geometry.result c.args.start.now.nodes c.args.start.now.warm c.args.start.now.spares c.legs.result c.length.result c.in_ok-legs.legs.items c.in_ok-legs.ensures)
+pub open-requires-clause-contents : goal.open-requires-clause-contents
+open-requires-clause-contents c =
+    inl (new_header c.in_ok-opening.opening c.faults.result.now c.in_ok-legs.legs.items c.in_ok-legs.ensures
+    c.geometry_of-geometry.result c.start-start.result.now.nodes c.start-start.result.now.warm c.start-start.result.now.spares c.in_ok-opening.ensures.value
+    (rw c.start-start.ensures c.requires.some_node) (rw (c.geometry_of-geometry.ensures, c.start-start.ensures) c.requires.nodes))
 
-pub returns-in-Ok-clause-told : goal.returns-in-Ok-clause-told
-returns-in-Ok-clause-told c =
-    let count : c.legs.result ≡ c.args.start.now.legs = c.legs.ensures.value ∙ ap (λ g. g.legs) c.geometry_of-geometry.ensures in
-    rw (c.in-Ok.ensures.contents, ← count) (blank_told c.legs.result c.length.result c.in_ok-legs.legs.items c.in_ok-legs.ensures)
+pub returns-in-Ok-clause-starts : goal.returns-in-Ok-clause-starts
+returns-in-Ok-clause-starts c =
+    starts_of c.in_ok-opening.opening c.faults.result.now c.in_ok-legs.legs.items c.in_ok-legs.ensures
+    c.geometry_of-geometry.result c.start-start.result.now.nodes c.start-start.result.now.warm c.start-start.result.now.spares c.in_ok-opening.ensures.value
+    (rw c.start-start.ensures c.requires.some_node) (rw (c.geometry_of-geometry.ensures, c.start-start.ensures) c.requires.nodes)
+    c.args.script.now c.in-Ok.world c.in_ok-opening.ensures.origin c.faults.ensures
+    (c.in_ok-opening.ensures.value ∙ rw (c.geometry_of-geometry.ensures, c.start-start.ensures) refl)
+    c.in-Ok.ensures.core c.in-Ok.ensures.legs c.in-Ok.ensures.past

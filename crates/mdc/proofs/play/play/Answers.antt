@@ -1,7 +1,7 @@
 use Rattle.std.proofs.Common.{Ok, Err, refl, sym, ◌∙◌, ap}
 use Rattle.std.specs.Prelude.{map}
 use Rattle.std.specs.String.{string_bytes}
-use Rattle.mdc.proofs.Answering.{play_answers, lock_answers, cut_answers}
+use Rattle.mdc.proofs.Answering.{play_answers, lock_answers, cut_answers, took}
 use Rattle.mdc.proofs.play.play.Goals as goal
 
 pub returns-in-Play-clause-answers : goal.returns-in-Play-clause-answers
@@ -53,3 +53,6 @@ returns-in-Err-Failed-clause-answers g c =
       sink_faults = g.K.Sink.faults c.args.sink.now;
       sink_faults_after = g.K.Sink.faults c.write_all.new.sink;
     }) c.in-Ok.command (sym c.read_words.ensures ∙ c.in-Ok.is) (c.in-Err.ensures.cause.failed _ refl refl) (c.in-Err-Failed.ensures.failed (ap Err c.in-Err-Failed.field-0-is)) c.in-Err.ensures.err
+
+pub returns-in-Play-clause-taken : goal.returns-in-Play-clause-taken
+returns-in-Play-clause-taken g c = took _ _ c.in-Ok-read_input.bytes.items c.in-Ok-read_input.ensures.taken c.in-Ok-read_input.ensures.part

@@ -6,5 +6,4 @@ pub returns-in-Some : goal.returns-in-Some
 returns-in-Some c = split_found c.args.bytes.now c.in-Some.at (sym c.line_feed.ensures ∙ c.in-Some.is)
 
 pub returns-in-None : goal.returns-in-None
-returns-in-None c =
-    rw (c.split_at.ensures.front, c.split_at.ensures.back) (split_whole c.args.bytes.now c.requires (sym c.line_feed.ensures ∙ c.in-None.is))
+returns-in-None c = split_whole c.args.bytes.now c.requires (sym c.line_feed.ensures ∙ c.in-None.is)

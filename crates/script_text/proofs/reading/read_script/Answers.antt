@@ -1,33 +1,28 @@
-use Rattle.std.proofs.Common.{◌≡◌, ℕ, List, Result, Ok, ap, subst, ◌∙◌}
-use Rattle.std.specs.Borrow.{Bor}
-use Rattle.script_text.specs.declared.faults.ScriptFault.{ScriptFault}
-use Rattle.script_text.specs.declared.script.Start.{Start}
-use Rattle.script_text.specs.declared.script.Line.{Line}
-use Rattle.script_text.specs.Lines.{lines_of}
-use Rattle.script_text.specs.Script.{body_of, line_of, with_lines}
-use Rattle.script_text.specs.Reading.{ReadsStart}
-use Rattle.script_text.proofs.GrammarLaws.{IsWhole, script_is, start_array, start_some_node, start_nodes}
+use Rattle.std.proofs.Common.{ap, ◌∙◌}
+use Rattle.script_text.specs.Script.{with_lines}
+use Rattle.script_text.proofs.GrammarLaws.{IsSetup, script_is}
 use Rattle.script_text.proofs.reading.read_script.Goals as goal
 
-read_whole : (bytes : List ℕ) (found : Result (Start × Bor (List ℕ) × ℕ × ℕ) ScriptFault) (start : Start) (rest : Bor (List ℕ)) (line room : ℕ) (lines : List Line)
-    → ReadsStart bytes found → found ≡ Ok (start, rest, line, room) → body_of line_of line room (lines_of rest.now) ≡ Ok lines → IsWhole (record { start = start; lines = lines })
-read_whole bytes found start rest line room lines r is body =
-    script_is bytes (record { start = start; lines = lines }) (subst (ReadsStart bytes) is r ∙ ap (with_lines (Ok start)) body)
+-- the array that was read, and its transfers that fail
+made : (c : goal.In_ok-places) → IsSetup (record { start = c.in_ok-start-2.start; faults = c.in_ok-start-2.faults.items })
+made c =
+    script_is c.args.bytes.now _ (c.in_ok-start.ensures.found ∙ (c.in_ok-start-2.ensures.found
+    ∙ ap (with_lines (record { start = c.in_ok-start-2.start; faults = c.in_ok-start-2.faults.items })) c.in_ok-places.ensures.1))
 
 pub returns-clause-array : goal.returns-clause-array
-returns-clause-array c =
-    start_array c.in_ok-start.start (read_whole c.args.bytes.now _ _ _ _ _ _ c.read_start.ensures.found c.in_ok-start.was c.in_ok-lines.ensures).start.start
+returns-clause-array c = (made c).array
 
 pub returns-clause-some_node : goal.returns-clause-some_node
-returns-clause-some_node c =
-    start_some_node c.in_ok-start.start (read_whole c.args.bytes.now _ _ _ _ _ _ c.read_start.ensures.found c.in_ok-start.was c.in_ok-lines.ensures).start.start
+returns-clause-some_node c = (made c).some_node
 
 pub returns-clause-nodes : goal.returns-clause-nodes
-returns-clause-nodes c =
-    start_nodes c.in_ok-start.start (read_whole c.args.bytes.now _ _ _ _ _ _ c.read_start.ensures.found c.in_ok-start.was c.in_ok-lines.ensures).start.start
+returns-clause-nodes c = (made c).nodes
+
+pub returns-clause-leg_0 : goal.returns-clause-leg_0
+returns-clause-leg_0 c = (made c).leg_0
 
 pub returns-clause-spares : goal.returns-clause-spares
-returns-clause-spares c = (read_whole c.args.bytes.now _ _ _ _ _ _ c.read_start.ensures.found c.in_ok-start.was c.in_ok-lines.ensures).start.spares
+returns-clause-spares c = (made c).spares
 
-pub returns-clause-events : goal.returns-clause-events
-returns-clause-events c = (read_whole c.args.bytes.now _ _ _ _ _ _ c.read_start.ensures.found c.in_ok-start.was c.in_ok-lines.ensures).lines
+pub returns-clause-faults : goal.returns-clause-faults
+returns-clause-faults c = (made c).faults

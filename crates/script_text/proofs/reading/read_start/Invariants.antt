@@ -1,13 +1,14 @@
-use Rattle.std.proofs.Common.{◌≡◌, ◌+◌, ◌≤◌, length}
+use Rattle.std.proofs.Common.{◌≡◌, ◌+◌, ◌-◌, ◌≤◌, length, drop}
 use Rattle.script_text.specs.Lines.{lines_of, script_limit}
 use Rattle.script_text.specs.Script.{script_in, judged}
 use Rattle.script_text.proofs.reading.read_start.Given as goal
 
-abbrev pub invariant-loop-rest : goal.invariant-loop-rest
-invariant-loop-rest l = record {
-  read : judged l.bytes ≡ script_in l.line l.room (lines_of l.rest);
-  few : l.line + l.room ≤ script_limit + 1;
+abbrev pub invariant-loop-at : goal.invariant-loop-at
+invariant-loop-at l = record {
+  read : judged l.bytes ≡ script_in l.line (script_limit - l.at) (lines_of (drop l.at l.bytes));
+  few : l.line ≤ l.at + 1;
+  room : l.at ≤ script_limit;
 }
 
-abbrev pub decreases-loop-rest : goal.decreases-loop-rest
-decreases-loop-rest l = length l.rest
+abbrev pub decreases-loop-at : goal.decreases-loop-at
+decreases-loop-at l = length l.bytes - l.at

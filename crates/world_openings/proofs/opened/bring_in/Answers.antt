@@ -1,4 +1,4 @@
-use Rattle.std.proofs.Common.{◌≡◌, ◌<◌, ◌∙◌, ap, ℕ, Bool}
+use Rattle.std.proofs.Common.{◌∙◌, ap}
 use Rattle.world_state.specs.Kept.{core_of}
 use Rattle.world_openings.proofs.Members.{came_in, free_slot, free_ack, free_dev, same_view, below_most}
 use Rattle.world_openings.proofs.opened.bring_in.Goals as goal

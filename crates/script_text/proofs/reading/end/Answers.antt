@@ -1,6 +1,0 @@
-use Rattle.std.proofs.Common.{sym}
-use Rattle.script_text.proofs.ReadingLaws.{some_more}
-use Rattle.script_text.proofs.reading.end.Goals as goal
-
-pub returns-then-is_some : goal.returns-then-is_some
-returns-then-is_some c = sym (some_more c.args.args c.if-is_some.ensures)
