@@ -45,4 +45,3 @@ abbrev pub LeavesByPlan : Option Plan → Option (List Sector) → ℕ → Secto
     → Type 0
 LeavesByPlan None old at v new = Unit {0}
 LeavesByPlan (Some p) old at v new = LeftAs (planned_failure p) old at v new
-

@@ -65,7 +65,6 @@ goes_ill old e t (Some Old) o new is fails leaves_new leaves_old = (fails, leave
 -- an event without a transfer
 module _ (old new : Kept) (legs : LegsSeen) (e : Event) (o : Outcome) (ok : refusal (core_of old) e ≡ None) (none : transfer_of (core_of old) e ≡ None)
     (core : core_of new ≡ after (core_of old) e o) where
-
   pub quiet : o ≡ outcome_of (core_of old) e → has_failed o ≡ false → Carries e o old legs new legs
   quiet is fine = record {
     step = record { accepted = ok; moves = Quiet none is refl; core = core };
@@ -78,7 +77,6 @@ module _ (old new : Kept) (legs : LegsSeen) (e : Event) (o : Outcome) (ok : refu
 -- a write
 module _ (old new : Kept) (before now : LegsSeen) (e : Event) (o : Outcome) (t : Transfer) (v : Sector) (accepted : refusal (core_of old) e ≡ None)
     (is : transfer_of (core_of old) e ≡ Some t) (value : t.value ≡ Some v) (core : core_of new ≡ after (core_of old) e o) where
-
   open_path : (core_of old).cut t.node t.leg ≡ false → is_open_path (core_of old) t ≡ true
   open_path e = ap not e
 
@@ -120,7 +118,6 @@ module _ (old new : Kept) (before now : LegsSeen) (e : Event) (o : Outcome) (t :
 -- a read
 module _ (old new : Kept) (before now : LegsSeen) (e : Event) (o : Outcome) (t : Transfer) (accepted : refusal (core_of old) e ≡ None)
     (is : transfer_of (core_of old) e ≡ Some t) (value : t.value ≡ None) (core : core_of new ≡ after (core_of old) e o) where
-
   pub got : (v : Sector) → Received ((core_of old).cut t.node t.leg) t.leg t.place (Ok v) before now → o ≡ outcome_read (core_of old) e t v → has_failed o ≡ false
       → Carries e o old before new now
   got v s fine told =

@@ -70,14 +70,28 @@ same_from core s s1 v v1 h h1 l l1 se se1 o o1 re re1 he he1 t t1 c c1 su su1 e0
 
 module _ (i : Identity) (m : members.Parts) (r : AllRequests) (b : Maps) (c : Copyings) (p : Progresses) (a : Addings) (tried : List (List Attempt))
     (v : Parts) (space : List Part) (s : SenderPhase) (re : Receiving) (paths : Paths) (ranges : List (Option Range)) where
-
   pub emptied : view_of v ≡ new_view (role_of (record { legs = replicate 8 Spare })) 0 (λ l. false) → locks_of space ≡ new_locks → s ≡ Idle → re ≡ new_receiving
       → path_open paths ≡ all_open → ranges_of ranges ≡ none_suspended → tried ≡ replicate 16 (replicate 8 Untried)
       → core_of (record {
-          identity = i; states = replicate 16 Out; views = replicate 16 v; heads = replicate 16 (replicate 8 0); requests = r; space = space; senders = replicate 16 s;
-          offers = replicate 16 None; receivers = replicate 16 re; heard = replicate 16 None; tried = tried; members = m; paths = paths; bitmaps = b;
-          suspended = replicate 16 ranges; copies = c; recoveries = p; additions = a;
-        }) ≡ nobody_in (array_of i) (members.members_of m) r b c p a
+        identity = i;
+        states = replicate 16 Out;
+        views = replicate 16 v;
+        heads = replicate 16 (replicate 8 0);
+        requests = r;
+        space = space;
+        senders = replicate 16 s;
+        offers = replicate 16 None;
+        receivers = replicate 16 re;
+        heard = replicate 16 None;
+        tried = tried;
+        members = m;
+        paths = paths;
+        bitmaps = b;
+        suspended = replicate 16 ranges;
+        copies = c;
+        recoveries = p;
+        additions = a;
+      }) ≡ nobody_in (array_of i) (members.members_of m) r b c p a
   emptied e f g h k q t = same_from (nobody_in (array_of i) (members.members_of m) r b c p a) _ _ _ _ _ _ _ _ _ _ _ _ _ _ _ _ _ _ _ _ _ _
       (fun_ext (λ n. all_same (λ x. x) 16 n Out Out refl))
       (fun_ext (λ n. all_same view_of 16 n v no_parts (spare_view v e ∙ sym no_parts_view) ∙ no_parts_view))

@@ -78,7 +78,6 @@ seen cs ss fs ps = record { contents = cs; sizes = ss; faults = fs; plans = ps }
 module _ (cs : List (Option (List Sector))) (ss fs : List ℕ) (ps : List (Option Plan)) (l s size : ℕ) (v : Sector) (ok : Bool)
     (c : Option (List Sector)) (f : ℕ) (p : Option Plan)
     (lt : l < length cs) (lt_f : l < length fs) (long : HasLength (get_or cs l None) size) (within : s < size) where
-
   left_legs : LeftOldOrNew (get_or cs l None) s v c → (legs_of (set cs l c) ≡ legs_of cs) ⊎ (legs_of (set cs l c) ≡ moved (legs_of cs) l s v)
   left_legs (inl old) = inl (rw old (told_same cs l lt))
   left_legs (inr new) = inr (rw new (legs_put cs l s size v lt long within))
@@ -109,7 +108,6 @@ module _ {X Y : Type 0} (f : X → Y) (xs : List X) (i : ℕ) (old new : X) (lt 
 -- a read of leg l
 module _ (cs : List (Option (List Sector))) (ss fs : List ℕ) (ps : List (Option Plan)) (l s size : ℕ) (result : Result Sector Failed)
     (f : ℕ) (p : Option Plan) (lt_f : l < length fs) (long : HasLength (get_or cs l None) size) (within : s < size) where
-
   pub received_of : IfOk result (λ v. Gives (get_or cs l None) s v) → (is_ok result ≡ false → Rose (get_or fs l 0) f)
       → GoesByPlan (get_or ps l None) (is_ok result) p
       → Received false l s result (seen cs ss fs ps) (seen cs ss (set fs l f) (set ps l p))

@@ -90,7 +90,8 @@ impl CoreState {
     fn new_legs(&mut self, n: NodeId, legs: u8)
         requires { n < 16 }
         ensures { core_of self.new ≡ record (core_of self.old) {
-            bitmap = with_at (core_of self.old).bitmap n (with_new_legs ((core_of self.old).bitmap n) (has_bit legs)) } }
+          bitmap = with_at (core_of self.old).bitmap n (with_new_legs ((core_of self.old).bitmap n) (has_bit legs));
+        } }
     {
         self.bitmaps.new_legs(n, legs);
     }
@@ -99,7 +100,8 @@ impl CoreState {
     fn cover_only(&mut self, n: NodeId, legs: u8)
         requires { n < 16 }
         ensures { core_of self.new ≡ record (core_of self.old) {
-            copy = with_at (core_of self.old).copy n (covering_legs ((core_of self.old).copy n) (has_bit legs)) } }
+          copy = with_at (core_of self.old).copy n (covering_legs ((core_of self.old).copy n) (has_bit legs));
+        } }
     {
         self.copies.cover_only(n, legs);
     }
@@ -139,7 +141,8 @@ impl CoreState {
     fn forget_bits(&mut self, n: NodeId)
         requires { n < 16 }
         ensures { core_of self.new ≡ record (core_of self.old) {
-            bitmap = with_at (core_of self.old).bitmap n (forgotten ((core_of self.old).bitmap n)) } }
+          bitmap = with_at (core_of self.old).bitmap n (forgotten ((core_of self.old).bitmap n));
+        } }
     {
         self.bitmaps.forget(n);
     }
@@ -169,10 +172,10 @@ impl CoreState {
     fn forget_rounds(&mut self, n: NodeId)
         requires { n < 16 }
         ensures { core_of self.new ≡ record (core_of self.old) {
-            view = with_at (core_of self.old).view n no_view;
-            offer = with_at (core_of self.old).offer n None;
-            heard = with_at (core_of self.old).heard n None;
-            tried = with_at (core_of self.old).tried n (λ l. Untried);
+          view = with_at (core_of self.old).view n no_view;
+          offer = with_at (core_of self.old).offer n None;
+          heard = with_at (core_of self.old).heard n None;
+          tried = with_at (core_of self.old).tried n (λ l. Untried);
         } }
     {
         self.forget_view(n);
@@ -192,9 +195,9 @@ impl CoreState {
     fn forget_repair(&mut self, n: NodeId)
         requires { n < 16 }
         ensures { core_of self.new ≡ record (core_of self.old) {
-            copy = with_at (core_of self.old).copy n no_copy;
-            recovery = with_at (core_of self.old).recovery n None;
-            adding = with_at (core_of self.old).adding n not_adding;
+          copy = with_at (core_of self.old).copy n no_copy;
+          recovery = with_at (core_of self.old).recovery n None;
+          adding = with_at (core_of self.old).adding n not_adding;
         } }
     {
         self.forget_copy(n);

@@ -72,7 +72,10 @@ impl CoreState {
         requires { n < nodes_of self.now.identity.geometry }
         ensures { Judges result (state_is (core_of self.now) n is_joining) }
     {
-        check(matches!(self.state(n), NodeState::Joining), self.not_state(n))
+        check(
+            matches!(self.state(n), NodeState::Joining),
+            self.not_state(n),
+        )
     }
 
     /// Needs a node that is loaded or up.

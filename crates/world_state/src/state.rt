@@ -8,10 +8,10 @@ use leg_store::PathTable;
 use md_superblock::Identity;
 use mdc_types::NodeState;
 use msg_rounds::{Receiver, Sender};
-use node_member::Record;
-use node_requests::Requests;
 use node_bits::Bitmaps;
 use node_copies::{Additions, Copies, Recoveries};
+use node_member::Record;
+use node_requests::Requests;
 use std::marker::Model;
 use suspend_ranges::SuspendList;
 

@@ -8,6 +8,6 @@ invariant_of-result g c = record {
   start = record { core = core_of c.in-Ok.core; legs = legs_of (map g.L.LegDev.contents c.args.legs.items) };
   opens = record { origin = c.requires.origin; core = c.in-Ok.ensures; contents = c.requires.contents };
   fits = c.requires.fits;
-  run = rw c.new-in-Ok.ensures.items refl;
-  few = rw c.new-in-Ok.ensures.items (omega arith);
+  run = rw c.new.ensures.items refl;
+  few = rw c.new.ensures.items (omega arith);
 }
