@@ -1,6 +1,7 @@
 #!/bin/sh
 # Times 1,000,000 acts in a turn by 1, 2 and 4 threads, and the same number of pushes under a Mutex of Rust's standard
-# library. The program in bench/turns is proved and built in a scratch repository, so it is no part of `rt ci`.
+# library. The program in bench/turns is proved and built in a scratch repository, so it is no part of `rt ci`: its files
+# end in .txt here.
 set -eu
 here=$(cd "$(dirname "$0")" && pwd)
 scratch=$(mktemp -d)
@@ -9,6 +10,7 @@ mkdir -p "$scratch/crates"
 cp "$here/../HANDLES" "$scratch/"
 cp -a "$here/../crates/turn_table" "$scratch/crates/"
 cp -a "$here/turns" "$scratch/crates/turn_bench"
+find "$scratch/crates/turn_bench" -name '*.txt' | while read -r file; do mv "$file" "${file%.txt}"; done
 mkdir -p "$scratch/crates/turn_bench/specs"
 : > "$scratch/crates/turn_bench/specs/Lib.antt"
 printf 'turn_table: atomic_table\nturn_bench: turn_table\n' > "$scratch/crates.txt"
