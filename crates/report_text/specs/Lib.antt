@@ -7,4 +7,5 @@ pub mod Queries
 pub mod Refusals
 pub mod Sets
 pub mod Values
+pub mod Wire
 pub mod Words

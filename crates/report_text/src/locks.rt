@@ -60,7 +60,8 @@ fn caller_field(caller: Option<NodeId>) -> Field<'static>
     }
 }
 
-fn refused_line(why: &LockError) -> Line<'static>
+/// The line of what refused a call.
+pub fn refused_line(why: &LockError) -> Line<'static>
     ensures { line_text result ≡ line (codes "refused") (lock_refusal_values why.now) }
 {
     match why {

@@ -2,6 +2,7 @@ use super::*;
 use dlm_modes::Mode;
 use dlm_space::LockError;
 use leg_failure::View;
+use lock_wire::Taken;
 use mdc_types::{
     Event, Geometry, NodeState, Outcome, Part, Range, Refusal, Res, Role, Roles, Sector, Wish, Word,
 };
@@ -353,6 +354,57 @@ const REPLIES: &[(LockReply, &str)] = &[
 fn replies(rt: HostRuntime) -> Result<(), Fail> {
     for (reply, want) in REPLIES {
         assert_eq!(rt; lock_reply_text(rt.alloc(), reply)?.as_str(), *want);
+    }
+    Ok(())
+}
+
+const WIRE_REPLIES: &[(WireReply, &str)] = &[
+    (WireReply::Asked, "asked"),
+    (WireReply::Converted, "converted"),
+    (WireReply::Released, "released"),
+    (WireReply::Took(Taken::Ask), "took ask"),
+    (WireReply::Took(Taken::Convert), "took convert"),
+    (WireReply::Took(Taken::Release), "took release"),
+    (WireReply::Took(Taken::Granted), "took granted"),
+    (WireReply::Took(Taken::Called), "took called"),
+    (WireReply::Took(Taken::Report), "took report"),
+    (
+        WireReply::Granted {
+            node: 15,
+            mode: Mode::PW,
+        },
+        "granted 15 PW",
+    ),
+    (WireReply::Died, "done"),
+    (
+        WireReply::Holds {
+            node: 255,
+            held: None,
+        },
+        "holds 255 -",
+    ),
+    (
+        WireReply::Holds {
+            node: 0,
+            held: Some(Mode::NL),
+        },
+        "holds 0 NL",
+    ),
+    (
+        WireReply::Refused(Refusal::LinkEmpty { from: 2, to: 1 }),
+        "refused link-empty 2 1",
+    ),
+    (WireReply::Refused(Refusal::Waiting), "refused waiting"),
+    (
+        WireReply::Denied(LockError::NothingAsked),
+        "refused nothing-asked",
+    ),
+];
+
+#[test]
+fn wire_replies(rt: HostRuntime) -> Result<(), Fail> {
+    for (reply, want) in WIRE_REPLIES {
+        assert_eq!(rt; wire_reply_text(rt.alloc(), reply)?.as_str(), *want);
     }
     Ok(())
 }

@@ -241,7 +241,7 @@ setup_in_keeps first s n room (line ∷ lines) v i is =
     (λ f t j e. setup_in_keeps f t (n + 1) (room - length line) lines v j e) i is
 
 header_then_is : (n : ℕ) (said : Result (List (List ℕ)) FaultKind) (later : Result ScriptValue ScriptFault) (after : Start → Result ScriptValue ScriptFault) (v : ScriptValue)
-    → (later ≡ Ok v → IsSetup (setup_of v)) → ((s : Start) → IsSetup (new_setup s) → after s ≡ Ok v → IsSetup (setup_of v)) → header_then n said later after ≡ Ok v → IsSetup (setup_of v)
+    → (later ≡ Ok v → IsSetup (setup_of v)) → ((s : Start) → IsSetup (new_setup s) → after s ≡ Ok v → IsSetup (setup_of v)) → header_then start_of n said later after ≡ Ok v → IsSetup (setup_of v)
 header_then_is n (Err kind) later after v f g is = cc
 header_then_is n (Ok []) later after v f g is = f is
 header_then_is n (Ok (word ∷ args)) later after v f g is =

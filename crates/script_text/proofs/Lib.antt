@@ -7,5 +7,6 @@ pub mod ReadingLaws
 pub mod PlacesLaws
 pub mod GrammarLaws
 mod LockLaws
+mod WireLaws
 pub mod InputLaws
 pub mod PartLaws

@@ -28,7 +28,7 @@ res_among_is (r ∷ rs) word res all is =
       | false ↦ λ is. res_among_is rs word res all.1 is
     ] is
 
-res_is : (word : List ℕ) (res : Res) → res_word word ≡ Ok res → IsResource res
+pub res_is : (word : List ℕ) (res : Res) → res_word word ≡ Ok res → IsResource res
 res_is word res is = res_among_is all_resources word res are_resources (ok_or_some (res_of word) kinds.Word res is)
 
 node_in_is : (n node : ℕ) → node_in n ≡ Ok node → node < 16
@@ -64,7 +64,7 @@ node_res_is args x is =
     let res = bind_ok (res_word words.0.1) _ x node.2 in
     subst IsPair (ok_same res.2) (node_is words.0.0 node.0 node.1, res_is words.0.1 res.0 res.1)
 
-one_res_is : (args : List (List ℕ)) (res : Res) → one_res args ≡ Ok res → IsResource res
+pub one_res_is : (args : List (List ℕ)) (res : Res) → one_res args ≡ Ok res → IsResource res
 one_res_is args res is =
     let fits = bind_ok (fitting (fits_res (first args))) _ res is in
     let word = bind_ok (ok_or (one args) kinds.Count) _ res fits.2 in

@@ -11,6 +11,7 @@ use Rattle.script_text.specs.declared.faults.ScriptFault.{ScriptFault}
 use Rattle.script_text.specs.Judging.{◌>>=◌, at_line}
 use Rattle.script_text.specs.Lines.{lines_of, text_of, through_end, up_to_end, input_part, script_limit}
 use Rattle.script_text.specs.Locks.{lock_line_of, locks_judged}
+use Rattle.script_text.specs.Wire.{WireValue, nodes_of, wire_line_of, with_nodes, wire_in, wire_judged}
 use Rattle.script_text.specs.declared.script.Start.{Start}
 use Rattle.script_text.specs.Header.{Setup, start_of, is_setup, setup_line, with_line}
 use Rattle.script_text.specs.Script.{ScriptValue, said_by, words_said, line_of, line_then, body_of, with_lines, setup_then, setup_in, new_setup, header_then, script_in, judged}
@@ -21,6 +22,8 @@ use Rattle.script_text.proofs.InputLaws.{IsText, IsText-tail, lines_at_feed, tex
 record Same (n room : ℕ) (xs ys : List (List ℕ)) : Type 0 where
   body : body_of line_of n room xs ≡ body_of line_of n room ys
   locks : body_of lock_line_of n room xs ≡ body_of lock_line_of n room ys
+  wire_body : body_of wire_line_of n room xs ≡ body_of wire_line_of n room ys
+  wire : wire_in n room xs ≡ wire_in n room ys
   setup : (first : Bool) (s : Setup) → setup_in first s n room xs ≡ setup_in first s n room ys
   script : script_in n room xs ≡ script_in n room ys
 
@@ -40,11 +43,11 @@ setup_same first s n (Ok []) f g x y same is = same first s
 setup_same first s n (Ok (word ∷ args)) f g x y same is =
     cond_same (is_setup first word) _ _ _ _ (bind_same (at_line n (setup_line s.start word args)) _ _ (λ line. same false (with_line s line))) is
 
-header_same : (n : ℕ) (said : Result (List (List ℕ)) FaultKind) (x y : Result ScriptValue ScriptFault) (f g : Start → Result ScriptValue ScriptFault)
-    → x ≡ y → ((s : Start) → f s ≡ g s) → header_then n said x f ≡ header_then n said y g
-header_same n (Err kind) x y f g is same = refl
-header_same n (Ok []) x y f g is same = is
-header_same n (Ok (word ∷ args)) x y f g is same = bind_same (at_line n (start_of word args)) f g same
+header_same : {H S : Type 0} (of : List ℕ → List (List ℕ) → Result H FaultKind) (n : ℕ) (said : Result (List (List ℕ)) FaultKind) (x y : Result S ScriptFault) (f g : H → Result S ScriptFault)
+    → x ≡ y → ((h : H) → f h ≡ g h) → header_then of n said x f ≡ header_then of n said y g
+header_same of n (Err kind) x y f g is same = refl
+header_same of n (Ok []) x y f g is same = is
+header_same of n (Ok (word ∷ args)) x y f g is same = bind_same (at_line n (of word args)) f g same
 
 same_more : (n room : ℕ) (line : List ℕ) (xs ys : List (List ℕ)) → Same (n + 1) (room - length line) xs ys → Same n room (line ∷ xs) (line ∷ ys)
 same_more n room line xs ys s =
@@ -52,8 +55,10 @@ same_more n room line xs ys s =
     record {
       body = body;
       locks = ap (line_then lock_line_of n (said_by room line)) s.locks;
+      wire_body = ap (line_then wire_line_of n (said_by room line)) s.wire_body;
+      wire = header_same nodes_of n (said_by room line) _ _ _ _ s.wire (λ nodes. ap (with_nodes nodes) s.wire_body);
       setup = λ first t. setup_same first t n (said_by room line) _ _ _ _ s.setup (ap (with_lines t) body);
-      script = header_same n (said_by room line) _ _ _ _ s.script (λ start. s.setup true (new_setup start));
+      script = header_same start_of n (said_by room line) _ _ _ _ s.script (λ start. s.setup true (new_setup start));
     }
 
 -- there is no room for the line
@@ -70,12 +75,18 @@ setup_long first s n room line xs long =
 
 script_long : (n room : ℕ) (line : List ℕ) (xs : List (List ℕ)) → room < length line → script_in n room (line ∷ xs) ≡ at_line n (Err kinds.Long)
 script_long n room line xs long =
-    ap (λ said. header_then n said (script_in (n + 1) (room - length line) xs) (λ start. setup_in true (new_setup start) (n + 1) (room - length line) xs)) (said_long room line long)
+    ap (λ said. header_then start_of n said (script_in (n + 1) (room - length line) xs) (λ start. setup_in true (new_setup start) (n + 1) (room - length line) xs)) (said_long room line long)
+
+wire_long : (n room : ℕ) (line : List ℕ) (xs : List (List ℕ)) → room < length line → wire_in n room (line ∷ xs) ≡ at_line n (Err kinds.Long)
+wire_long n room line xs long =
+    ap (λ said. header_then nodes_of n said (wire_in (n + 1) (room - length line) xs) (λ nodes. with_nodes nodes (body_of wire_line_of (n + 1) (room - length line) xs))) (said_long room line long)
 
 same_long : (n room : ℕ) (a b : List ℕ) (xs ys : List (List ℕ)) → room < length a → room < length b → Same n room (a ∷ xs) (b ∷ ys)
 same_long n room a b xs ys long longer = record {
   body = body_long line_of n room a xs long ∙ sym (body_long line_of n room b ys longer);
   locks = body_long lock_line_of n room a xs long ∙ sym (body_long lock_line_of n room b ys longer);
+  wire_body = body_long wire_line_of n room a xs long ∙ sym (body_long wire_line_of n room b ys longer);
+  wire = wire_long n room a xs long ∙ sym (wire_long n room b ys longer);
   setup = λ first s. setup_long first s n room a xs long ∙ sym (setup_long first s n room b ys longer);
   script = script_long n room a xs long ∙ sym (script_long n room b ys longer);
 }
@@ -97,10 +108,16 @@ end_setup false s n false true f g x y is = is
 end_setup first s n false false f g x y is = is
 
 end_first : (n : ℕ) (long text : Bool) (xs ys : Result ScriptValue ScriptFault) (f g : Start → Result ScriptValue ScriptFault)
-    → header_then n (end_said long text) xs f ≡ header_then n (end_said long text) ys g
+    → header_then start_of n (end_said long text) xs f ≡ header_then start_of n (end_said long text) ys g
 end_first n true text xs ys f g = refl
 end_first n false true xs ys f g = refl
 end_first n false false xs ys f g = refl
+
+end_wire : (n : ℕ) (long text : Bool) (xs ys : Result WireValue ScriptFault) (f g : ℕ → Result WireValue ScriptFault)
+    → header_then nodes_of n (end_said long text) xs f ≡ header_then nodes_of n (end_said long text) ys g
+end_wire n true text xs ys f g = refl
+end_wire n false true xs ys f g = refl
+end_wire n false false xs ys f g = refl
 
 same_end : (n room : ℕ) (xs ys : List (List ℕ)) → Same n room (end_line ∷ xs) (end_line ∷ ys)
 same_end n room xs ys =
@@ -110,12 +127,14 @@ same_end n room xs ys =
     record {
       body = body;
       locks = end_then lock_line_of n long text _ _;
+      wire_body = end_then wire_line_of n long text _ _;
+      wire = end_wire n long text _ _ _ _;
       setup = λ first s. end_setup first s n long text _ _ _ _ (ap (with_lines s) body);
       script = end_first n long text _ _ _ _;
     }
 
 same_refl : (n room : ℕ) (xs : List (List ℕ)) → Same n room xs xs
-same_refl n room xs = record { body = refl; locks = refl; setup = λ first s. refl; script = refl }
+same_refl n room xs = record { body = refl; locks = refl; wire_body = refl; wire = refl; setup = λ first s. refl; script = refl }
 
 is_end_line : (line : List ℕ) → bytes_eq line end_line ≡ true → line ≡ end_line
 is_end_line line is = grind (arith, bytes_eq-Decides line end_line)
@@ -260,3 +279,8 @@ pub part_locks_judged : (bytes : List ℕ) → locks_judged (input_part bytes) �
 part_locks_judged bytes =
     (part_same bytes).locks
     ∙ (ap (body_of lock_line_of 1 script_limit) (lines_taken (length bytes + 1) bytes (omega arith)) ∙ (same_through 1 script_limit (lines_of bytes)).locks)
+
+pub part_wire_judged : (bytes : List ℕ) → wire_judged (input_part bytes) ≡ wire_judged bytes
+part_wire_judged bytes =
+    (part_same bytes).wire
+    ∙ (ap (wire_in 1 script_limit) (lines_taken (length bytes + 1) bytes (omega arith)) ∙ (same_through 1 script_limit (lines_of bytes)).wire)

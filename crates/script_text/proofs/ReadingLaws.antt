@@ -88,23 +88,23 @@ none_left bytes at le = ap lines_of (drop_all at bytes le)
 
 -- Line n stands at the place.
 module _ (bytes : List ℕ) (at n : ℕ) where
-  room_after : (words : List (List ℕ)) (next : ℕ) (h : HasLine bytes at words next) → script_limit - at - length h.line ≡ script_limit - next
+  pub room_after : (words : List (List ℕ)) (next : ℕ) (h : HasLine bytes at words next) → script_limit - at - length h.line ≡ script_limit - next
   room_after words next h = omega (arith, h.next_is, h.room)
 
   pub script_first : (words : List (List ℕ)) (next : ℕ) → HasLine bytes at words next
       → script_in n (script_limit - at) (lines_of (drop at bytes))
-      ≡ header_then n (Ok words) (script_in (n + 1) (script_limit - next) (lines_of (drop next bytes))) (λ start. setup_at bytes (new_setup start) next (n + 1))
+      ≡ header_then start_of n (Ok words) (script_in (n + 1) (script_limit - next) (lines_of (drop next bytes))) (λ start. setup_at bytes (new_setup start) next (n + 1))
   script_first words next h =
       ap (script_in n (script_limit - at)) h.first
-      ∙ (ap (λ said. header_then n said (script_in (n + 1) (script_limit - at - length h.line) (lines_of (drop next bytes)))
+      ∙ (ap (λ said. header_then start_of n said (script_in (n + 1) (script_limit - at - length h.line) (lines_of (drop next bytes)))
       (λ start. setup_in true (new_setup start) (n + 1) (script_limit - at - length h.line) (lines_of (drop next bytes)))) h.said
-      ∙ ap (λ room. header_then n (Ok words) (script_in (n + 1) room (lines_of (drop next bytes))) (λ start. setup_in true (new_setup start) (n + 1) room (lines_of (drop next bytes))))
+      ∙ ap (λ room. header_then start_of n (Ok words) (script_in (n + 1) room (lines_of (drop next bytes))) (λ start. setup_in true (new_setup start) (n + 1) room (lines_of (drop next bytes))))
       (room_after words next h))
 
   pub script_fault : (kind : FaultKind) → HasFault bytes at kind → script_in n (script_limit - at) (lines_of (drop at bytes)) ≡ at_line n (Err kind)
   script_fault kind h =
       ap (script_in n (script_limit - at)) h.first
-      ∙ ap (λ said. header_then n said (script_in (n + 1) (script_limit - at - length h.line) h.lines)
+      ∙ ap (λ said. header_then start_of n said (script_in (n + 1) (script_limit - at - length h.line) h.lines)
       (λ start. setup_in true (new_setup start) (n + 1) (script_limit - at - length h.line) h.lines)) h.said
 
   pub setup_first : (first : Bool) (s : Setup) (words : List (List ℕ)) (next : ℕ) → HasLine bytes at words next

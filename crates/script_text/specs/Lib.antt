@@ -11,4 +11,5 @@ pub mod Places
 pub mod Reading
 pub mod Script
 pub mod Steps
+pub mod Wire
 pub mod Words

@@ -104,16 +104,18 @@ setup_in first s n room (line ∷ lines) =
 abbrev pub new_setup : Start → Setup
 new_setup start = record { start = start; faults = [] }
 
--- line n is skipped, or is the header: what follows is the same, or what comes after the header
-abbrev pub header_then : ℕ → Result (List (List ℕ)) FaultKind → Result ScriptValue ScriptFault → (Start → Result ScriptValue ScriptFault) → Result ScriptValue ScriptFault
-header_then n (Err kind) later after = at_line n (Err kind)
-header_then n (Ok []) later after = later
-header_then n (Ok (word ∷ args)) later after = at_line n (start_of word args) >>= after
+-- line n is skipped, or is the header: what follows is the same, or what comes after the header, where `of` says what
+-- a header's first word and the words after it are
+abbrev pub header_then : {H S : Type 0} → (List ℕ → List (List ℕ) → Result H FaultKind) → ℕ → Result (List (List ℕ)) FaultKind
+    → Result S ScriptFault → (H → Result S ScriptFault) → Result S ScriptFault
+header_then of n (Err kind) later after = at_line n (Err kind)
+header_then of n (Ok []) later after = later
+header_then of n (Ok (word ∷ args)) later after = at_line n (of word args) >>= after
 
 abbrev pub script_in : ℕ → ℕ → List (List ℕ) → Result ScriptValue ScriptFault
 script_in n room [] = at_line n (Err kinds.NoArray)
 script_in n room (line ∷ lines) =
-    header_then n (said_by room line) (script_in (n + 1) (room - length line) lines) (λ start. setup_in true (new_setup start) (n + 1) (room - length line) lines)
+    header_then start_of n (said_by room line) (script_in (n + 1) (room - length line) lines) (λ start. setup_in true (new_setup start) (n + 1) (room - length line) lines)
 
 -- the script, or the first line outside the grammar and what is wrong with it
 abbrev pub judged : List ℕ → Result ScriptValue ScriptFault

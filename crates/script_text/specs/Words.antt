@@ -4,7 +4,7 @@ use Rattle.std.specs.Str.{bytes_eq}
 use Rattle.script_text.specs.declared.faults.FaultKind.{FaultKind}
 use Rattle.script_text.specs.declared.faults.FaultKind.TheVariants.{Long, Utf8, NoArray, Word, Count, Number, Value, Range, NoEnd}
 use Rattle.script_text.specs.declared.command.Command.{Command}
-use Rattle.script_text.specs.declared.command.Command.TheVariants.{Play, Locks}
+use Rattle.script_text.specs.declared.command.Command.TheVariants.{Play, Locks, Wire}
 use Rattle.script_text.specs.declared.command.WordsEnd.{WordsEnd}
 use Rattle.script_text.specs.declared.command.WordsEnd.TheVariants.{Usage}
 
@@ -19,10 +19,11 @@ fault_word Value = codes "value"
 fault_word Range = codes "range"
 fault_word NoEnd = codes "no-end"
 
--- the command is a single word, `play` or `locks`
+-- the command is a single word, `play`, `locks` or `wire`
 abbrev pub command_of : List (List ℕ) → Result Command WordsEnd
 command_of (word ∷ []) =
     if bytes_eq word (codes "play") then Ok Play
     else if bytes_eq word (codes "locks") then Ok Locks
+    else if bytes_eq word (codes "wire") then Ok Wire
     else Err Usage
 command_of words = Err Usage

@@ -9,6 +9,8 @@ pub enum Command {
     Play,
     /// `locks`: it runs the lock script of its input.
     Locks,
+    /// `wire`: it runs the wire script of its input.
+    Wire,
 }
 
 /// Why words are no command.
@@ -25,6 +27,7 @@ pub fn read_words(words: &[String]) -> Result<Command, WordsEnd>
     match words {
         [word] if word.as_str() == "play" => Ok(Command::Play),
         [word] if word.as_str() == "locks" => Ok(Command::Locks),
+        [word] if word.as_str() == "wire" => Ok(Command::Wire),
         _ => Err(WordsEnd::Usage),
     }
 }

@@ -18,6 +18,10 @@
 //! `bitmap015`, `token`, `message`, `ack`, `no-new-dev` and `resync`, and its modes `NL`, `CR`, `CW`,
 //! `PR`, `PW` and `EX`.
 //!
+//! A wire script has the header `nodes N` of 1 to 16 nodes. Its lines are `ask N RES MODE`,
+//! `convert N RES MODE`, `release N RES`, `deliver FROM TO`, `serve RES`, `die N` and `holds N RES`, with
+//! the same skipped lines, the same line `end` and the same limit. Its nodes are 0 to 255.
+//!
 //! Of bytes that are no script the first line outside the grammar is told, and what is wrong with it.
 #![tactic(auto)]
 
@@ -38,6 +42,7 @@ mod sink;
 mod source;
 mod std_io;
 mod text_out;
+mod wire;
 
 pub use command::{Command, WordsEnd, read_words};
 pub use faults::{FaultKind, ScriptEnd, ScriptFault};
@@ -50,6 +55,7 @@ pub use sink::{Sink, write_all};
 pub use source::Source;
 pub use std_io::{StdSink, StdSource};
 pub use text_out::TextOut;
+pub use wire::{WireLine, WireScript, read_wire};
 
 #[cfg(test)]
 mod tests;

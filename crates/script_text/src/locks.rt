@@ -3,16 +3,15 @@ ghost use Rattle.std.specs.List.{AllByRecursion};
 ghost use Rattle.std.specs.Option.{option_copied};
 ghost use Rattle.script_text.specs.Lines.{words_after};
 ghost use Rattle.script_text.specs.Locks.{node_word, node_res_mode, node_res, one_node, lock_line_of, IsLockLine, ReadsLocks};
-ghost use Rattle.script_text.specs.Places.{lines_at, AreLines};
 
 use crate::arguments::{fits_mode, fits_res, mode_word, one_res, res_word};
 use crate::lines::{one, second, third, three, two};
 use crate::numbers::byte_word;
-use crate::reading::{ScriptLine, line_at, read_places};
+use crate::reading::{ScriptLine, lines_at, read_places};
 use crate::{FaultKind, ScriptEnd};
 use dlm_modes::Mode;
 use mdc_types::{NodeId, Res};
-use std::alloc::{AllocError, Global};
+use std::alloc::Global;
 use std::marker::Model;
 
 // Of a lock space.
@@ -133,21 +132,6 @@ impl ScriptLine for LockLine {
             _ => Err(FaultKind::Word),
         }
     }
-}
-
-// The lines at these places.
-fn lines_at(alloc: Global, bytes: &[u8], places: &[u32]) -> Result<Vec<LockLine>, AllocError>
-    requires { AreLines lock_line_of bytes.now places.now }
-    ensures { IfOk result (λ lines. lines.items ≡ lines_at lock_line_of bytes.now places.now) }
-{
-    let mut lines = Vec::with_capacity(alloc, places.len())?;
-    for at in places {
-        match line_at::<LockLine>(bytes, *at) {
-            Some(line) => lines.push(line)?,
-            None => unreachable!(),
-        }
-    }
-    Ok(lines)
 }
 
 /// Reads a lock script. What follows its line `end` isn't judged.

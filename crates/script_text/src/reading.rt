@@ -5,9 +5,10 @@ ghost use Rattle.mdc_types.specs.Bits.{has_bit};
 ghost use Rattle.script_text.specs.declared.faults.FaultKind.{FaultKind};
 ghost use Rattle.script_text.specs.Lines.{words_after, input_part, script_limit};
 ghost use Rattle.script_text.specs.Locks.{lock_script_of, lock_fault_of};
+ghost use Rattle.script_text.specs.Wire.{wire_script_of, wire_fault_of};
 ghost use Rattle.script_text.specs.Header.{start_sizes, most_nodes};
 ghost use Rattle.script_text.specs.Script.{Reads, new_setup, script_of, fault_of, words_said};
-ghost use Rattle.script_text.specs.Places.{line_at};
+ghost use Rattle.script_text.specs.Places.{line_at, lines_at, AreLines};
 ghost use Rattle.script_text.specs.Reading.{words_read, ReadsLine, ReadsStart, ReadsSetup, ReadsPlaces, setup_at, body_at};
 
 use crate::arguments::alone;
@@ -16,13 +17,13 @@ use crate::header::{SetupLine, is_setup, setup_line, start};
 use crate::lines::{split_line, split_word};
 use crate::{FaultKind, FaultLine, Line, Script, ScriptEnd, ScriptFault, Start};
 use mdc_types::with_leg;
-use std::alloc::Global;
+use std::alloc::{AllocError, Global};
 
 /// The most bytes that a script holds, up to the line feed of its line `end`.
 pub(crate) const SCRIPT_LIMIT: usize = 16_777_216;
 
-// What a line says: its first word and the words after it, or nothing where it is skipped.
-type Said<'a> = Option<(&'a str, Option<&'a str>)>;
+/// What a line says: its first word and the words after it, or nothing where it is skipped.
+pub(crate) type Said<'a> = Option<(&'a str, Option<&'a str>)>;
 
 fn said(text: &str) -> Said<'_>
     ensures { words_read result ≡ words_said text.now }
@@ -33,8 +34,8 @@ fn said(text: &str) -> Said<'_>
     Some(split_word(text))
 }
 
-// What the line that begins at `at` says, and where the next begins.
-fn next_line(bytes: &[u8], at: usize) -> Result<(Said<'_>, usize), FaultKind>
+/// What the line that begins at `at` says, and where the next begins.
+pub(crate) fn next_line(bytes: &[u8], at: usize) -> Result<(Said<'_>, usize), FaultKind>
     requires { at < length bytes.now }
     ensures { ReadsLine bytes.now at result }
 {
@@ -172,6 +173,25 @@ pub(crate) fn read_places<L: ScriptLine + Drop>(
     }))
 }
 
+/// The lines at these places.
+pub(crate) fn lines_at<L: ScriptLine + Drop>(
+    alloc: Global,
+    bytes: &[u8],
+    places: &[u32],
+) -> Result<Vec<L>, AllocError>
+    requires { AreLines L.says bytes.now places.now }
+    ensures { IfOk result (λ lines. lines.items ≡ lines_at L.says bytes.now places.now) }
+{
+    let mut lines = Vec::with_capacity(alloc, places.len())?;
+    for at in places {
+        match line_at::<L>(bytes, *at) {
+            Some(line) => lines.push(line)?,
+            None => unreachable!(),
+        }
+    }
+    Ok(lines)
+}
+
 /// Reads a script. What follows its line `end` isn't judged.
 pub fn read_script(alloc: Global, bytes: &[u8]) -> Result<Script<'_>, ScriptEnd>
     // It is this script, or the bytes have this fault, or memory is wanting.
@@ -199,10 +219,12 @@ pub fn read_script(alloc: Global, bytes: &[u8]) -> Result<Script<'_>, ScriptEnd>
 }
 
 /// A law: what [`read_input`](crate::read_input) takes of an input is judged as all of it would be. It
-/// is the same script, and has the same fault, and so it is as a lock script.
+/// is the same script, and has the same fault, and so it is as a lock script and as a wire script.
 pub fn part_is_judged_as_all()
     ensures script { (bytes : List ℕ) → script_of (input_part bytes) ≡ script_of bytes }
     ensures fault { (bytes : List ℕ) → fault_of (input_part bytes) ≡ fault_of bytes }
     ensures lock_script { (bytes : List ℕ) → lock_script_of (input_part bytes) ≡ lock_script_of bytes }
     ensures lock_fault { (bytes : List ℕ) → lock_fault_of (input_part bytes) ≡ lock_fault_of bytes }
+    ensures wire_script { (bytes : List ℕ) → wire_script_of (input_part bytes) ≡ wire_script_of bytes }
+    ensures wire_fault { (bytes : List ℕ) → wire_fault_of (input_part bytes) ≡ wire_fault_of bytes }
 {}

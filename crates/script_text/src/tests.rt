@@ -169,6 +169,48 @@ fn lock_scripts(rt: HostRuntime) -> Result<(), Fail> {
     Ok(())
 }
 
+const WIRE_SCRIPTS: &[(&str, &str)] = &[
+    ("\n# one\nnodes 1\n#\nask 0 ack CR\n\nend\nfrob", "ok"),
+    (
+        "nodes 16\nask 255 bitmap000 NL\nconvert 15 bitmap015 CW\nrelease 1 token\ndeliver 255 0\nserve no-new-dev\ndie 16\nholds 16 resync\nend",
+        "ok",
+    ),
+    ("", "1 no-array"),
+    ("#\n\n", "3 no-array"),
+    ("ask 0 ack CR\nend\n", "1 no-array"),
+    ("warm 2 16 4 1\nend\n", "1 no-array"),
+    ("end\n", "1 no-array"),
+    ("nodes\nend\n", "1 count"),
+    ("nodes 3 3\nend\n", "1 count"),
+    ("nodes 03\nend\n", "1 number"),
+    ("nodes 0\nend\n", "1 range"),
+    ("nodes 17\nend\n", "1 range"),
+    ("nodes 256\nend\n", "1 range"),
+    ("nodes 3", "2 no-end"),
+    ("nodes 3\nnodes 3\nend\n", "2 word"),
+    ("nodes 3\ngrant ack\nend\n", "2 word"),
+    ("nodes 3\nask x ack XX\nend\n", "2 word"),
+    ("nodes 3\nask 0  ack EX\nend\n", "2 word"),
+    ("nodes 3\nserve bitmap016 0\nend\n", "2 word"),
+    ("nodes 3\nholds 0 frob 1\nend\n", "2 word"),
+    ("nodes 3\nconvert 0 ack\nend\n", "2 count"),
+    ("nodes 3\nserve\nend\n", "2 count"),
+    ("nodes 3\ndeliver 300\nend\n", "2 count"),
+    ("nodes 3\nend 1\n", "2 count"),
+    ("nodes 3\nask 256 ack EX\nend\n", "2 number"),
+    ("nodes 3\ndeliver 0 256\nend\n", "2 number"),
+    ("nodes 3\ndie \nend\n", "2 number"),
+];
+
+#[test]
+fn wire_scripts(rt: HostRuntime) -> Result<(), Fail> {
+    for (text, wanted) in WIRE_SCRIPTS {
+        let told = told(rt.alloc(), read_wire(rt.alloc(), text.as_bytes()))?;
+        assert_eq!(rt; told.as_str(), *wanted, "at {text:?}");
+    }
+    Ok(())
+}
+
 // What stands before and after so many equal bytes, and what is told of the script. Twenty bytes and
 // 16,777,196 are what a script may hold.
 const LONG_SCRIPTS: &[(&str, u8, usize, &str, &str)] = &[
@@ -245,6 +287,18 @@ fn parts_of_scripts(rt: HostRuntime) -> Result<(), Fail> {
         },
         LockLine::Die(9),
     ];
+    assert_eq!(rt; script.lines(), wanted.as_slice());
+    let script = read_wire(rt.alloc(), b"nodes 5\ndeliver 4 2\nholds 9 ack\nend\n")
+        .ok()
+        .ok_or("a script")?;
+    let wanted = [
+        WireLine::Deliver { from: 4, to: 2 },
+        WireLine::Holds {
+            node: 9,
+            res: Res::Ack,
+        },
+    ];
+    assert_eq!(rt; script.nodes(), 5);
     assert_eq!(rt; script.lines(), wanted.as_slice());
     Ok(())
 }
@@ -357,6 +411,8 @@ fn sinks(rt: HostRuntime) -> Result<(), Fail> {
 const CALLS: &[(&str, Result<Command, WordsEnd>)] = &[
     ("play", Ok(Command::Play)),
     ("locks", Ok(Command::Locks)),
+    ("wire", Ok(Command::Wire)),
+    ("wire wire", Err(WordsEnd::Usage)),
     ("play play", Err(WordsEnd::Usage)),
     ("frob", Err(WordsEnd::Usage)),
     ("", Err(WordsEnd::Usage)),

@@ -1,7 +1,7 @@
 use Rattle.std.proofs.Common.{ap}
 use Rattle.std.specs.Result.{result_ok}
 use Rattle.script_text.specs.Script.{fault_in}
-use Rattle.script_text.proofs.PartLaws.{part_judged, part_locks_judged}
+use Rattle.script_text.proofs.PartLaws.{part_judged, part_locks_judged, part_wire_judged}
 use Rattle.script_text.proofs.reading.part_is_judged_as_all.Goals as goal
 
 pub returns-clause-script : goal.returns-clause-script
@@ -15,3 +15,9 @@ returns-clause-lock_script c bytes = ap result_ok (part_locks_judged bytes)
 
 pub returns-clause-lock_fault : goal.returns-clause-lock_fault
 returns-clause-lock_fault c bytes = ap fault_in (part_locks_judged bytes)
+
+pub returns-clause-wire_script : goal.returns-clause-wire_script
+returns-clause-wire_script c bytes = ap result_ok (part_wire_judged bytes)
+
+pub returns-clause-wire_fault : goal.returns-clause-wire_fault
+returns-clause-wire_fault c bytes = ap fault_in (part_wire_judged bytes)
