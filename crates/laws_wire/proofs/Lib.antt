@@ -6,4 +6,5 @@ pub mod Kept
 pub mod Wires
 pub mod RunsKept
 pub mod Made
+pub mod Fresh
 pub mod Tickets

@@ -31,9 +31,9 @@ use Rattle.laws_wire.proofs.Wires.{own_test, other_word, or_first, lives, calls_
 use Rattle.laws_wire.proofs.RunsKept.{runs_keep}
 
 -- the calls were accepted, and lead to the lock
-record Leads (past : List Calls.Call) (r : ℕ) (lock : Lock) : Type 0 where
-  accepted : Calls.AreAccepted past
-  leads : Calls.locks_after past r ≡ lock
+pub record Leads (past : List Calls.Call) (r : ℕ) (lock : Lock) : Type 0 where
+  pub accepted : Calls.AreAccepted past
+  pub leads : Calls.locks_after past r ≡ lock
 
 self_at : {A : Type 0} (f : ℕ → A) (r : ℕ) (v : A) → with_at f r v r ≡ v
 self_at f r v = ap (λ b. if b then v else f r) (self_test r)
@@ -77,7 +77,7 @@ leads_same past r lock now e p = record { accepted = p.accepted; leads = p.leads
 lock_same : (w v : Wire) (r : ℕ) → SameAt w v r → lock_at v r ≡ lock_at w r
 lock_same w v r p = p.table (master_of v r) ∙ ap (λ k. w.table k r) p.master
 
-ward_keeps : {A : Type 0} (g : Ward → A) (ward : ℕ → Ward) (r : ℕ) (u : Ward) (s : ℕ) → g u ≡ g (ward r) → g (with_at ward r u s) ≡ g (ward s)
+pub ward_keeps : {A : Type 0} (g : Ward → A) (ward : ℕ → Ward) (r : ℕ) (u : Ward) (s : ℕ) → g u ≡ g (ward r) → g (with_at ward r u s) ≡ g (ward s)
 ward_keeps g ward r u s e =
     elim (s == r) as (λ t. (s == r) ≡ t → g (if t then u else ward s) ≡ g (ward s)) [
       | true ↦ λ t. let same : s ≡ r = grind (arith, nat_tests) in e ∙ ap (λ k. g (ward k)) (sym same)
@@ -102,7 +102,7 @@ cons_nil : {A : Type 0} (x : A) (xs : List A) → x ∷ xs ≡ [] → ⊥
 cons_nil x xs e = cc
 
 -- who is told of the resource is its master
-is_told : (w : Wire) (a b r : ℕ) (word : Word) (more : List Word) → Kept w r → words r (w.link a b) ≡ word ∷ more → b ≡ master_of w r
+pub is_told : (w : Wire) (a b r : ℕ) (word : Word) (more : List Word) → Kept w r → words r (w.link a b) ≡ word ∷ more → b ≡ master_of w r
 is_told w a b r word more k e = elim (same_or b (master_of w r)) [ inl at ↦ at | inr ne ↦ absurd (cons_nil word more (sym e ∙ k.tells a b ne)) ]
 
 -- what is on the link to the master
@@ -348,7 +348,7 @@ call_leads w (Delivers x y) r past i a lt p = heard_packet w x y i (lives w x (o
 call_leads w (Serves s) r past i a lt p = served_leads w s r past (grant_answer (lock_at w s)) (may_serve w s a.accepted) refl p
 call_leads w (Dies d) r past i a lt p = died_leads w d r past (heir (without_node w d)) i lt (lives w d a.accepted) refl p
 
-runs_lead : (nodes : ℕ) (past : List Call) → AreAccepted nodes past → (r : ℕ) → r < 21 → Leads (made_in nodes past r) r (lock_at (wire_after nodes past) r)
+pub runs_lead : (nodes : ℕ) (past : List Call) → AreAccepted nodes past → (r : ℕ) → r < 21 → Leads (made_in nodes past r) r (lock_at (wire_after nodes past) r)
 runs_lead nodes [] ok r lt = record { accepted = tt; leads = refl }
 runs_lead nodes (call ∷ past) (ok, a) r lt = call_leads (wire_after nodes past) call r (made_in nodes past r) (runs_keep nodes past ok) a lt (runs_lead nodes past ok r lt)
 

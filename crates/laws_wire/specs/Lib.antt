@@ -3,4 +3,5 @@ pub mod Views
 pub mod Invariants
 pub mod Tickets
 pub mod Made
+pub mod Fresh
 pub mod Sound

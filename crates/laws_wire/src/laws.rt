@@ -1,4 +1,5 @@
 //! What holds over every list of calls of a spread lock space.
+ghost use Rattle.laws_wire.specs.Fresh.{BlocksAreTold};
 ghost use Rattle.laws_wire.specs.Sound.{WiresAreSound};
 
 /// After every list of accepted calls, whichever masters died and in whatever order the links delivered:
@@ -14,4 +15,11 @@ ghost use Rattle.laws_wire.specs.Sound.{WiresAreSound};
 /// - A master serves a resource only once no report on it of a live node is on its way.
 pub fn wires_are_sound()
     ensures { WiresAreSound }
+{}
+
+/// After every list of accepted calls a serve answers what the lock space of its master's calls answers, but
+/// that the block isn't told as valid where the resource was taken over from a master that died, and none of
+/// the calls that its master made since then gave the block a value from PW or EX.
+pub fn blocks_are_told()
+    ensures { BlocksAreTold }
 {}
