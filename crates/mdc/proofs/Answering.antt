@@ -35,6 +35,7 @@ use Rattle.mdc.specs.Answers.RunText.{first_lines, then_full}
 use Rattle.mdc.specs.Answers.IsText.{no_input, no_script, of_run}
 use Rattle.mdc.specs.LockAnswers.{ReadsLocks, ReadsNoLocks, LocksJudged, LockAnswers, FaultTold}
 use Rattle.mdc.specs.LockAnswers.LocksCut.{at_input, at_fault, in_run}
+use Rattle.mdc.specs.WireAnswers.WireCut.{at_input as at_wire_input}
 use Rattle.mdc.specs.declared.status.Status.{Status}
 use Rattle.mdc.specs.declared.status.Status.TheVariants as statuses
 use Rattle.mdc.proofs.Played.{run_of}
@@ -244,14 +245,17 @@ module _ (o : Outside) where
   read_fault_of : (c : Command) → Rose o.source_faults o.source_faults_after → Wrote o read_fault_line → AnswersTo (Ok c) o statuses.ReadFault
   read_fault_of commands.Play rose wrote = (rose, wrote)
   read_fault_of commands.Locks rose wrote = (rose, wrote)
+  read_fault_of commands.Wire rose wrote = (rose, wrote)
 
   cut_of : (c : Command) → Rose o.sink_faults o.sink_faults_after → Rose o.source_faults o.source_faults_after → WroteLess o read_fault_line → AnswersTo (Ok c) o statuses.WriteFault
   cut_of commands.Play rose failed front = (rose, (read_fault_line, (no_input failed, front)))
   cut_of commands.Locks rose failed front = (rose, at_input failed front)
+  cut_of commands.Wire rose failed front = (rose, at_wire_input failed front)
 
   memory_of : (c : Command) → o.written_after ≡ o.written → AnswersTo (Ok c) o statuses.Memory
   memory_of commands.Play same = inl same
   memory_of commands.Locks same = inl same
+  memory_of commands.Wire same = inl same
 
   module _ (c : Command) (is : command_of o.words ≡ Ok c) where
     pub read_fault_answers : Rose o.source_faults o.source_faults_after → Wrote o read_fault_line → Answers o statuses.ReadFault
@@ -277,7 +281,10 @@ chosen false x y z P is f g = g is
 -- no words want memory
 pub words_fit : (words : List (List ℕ)) → command_of words ≡ Err Memory → ⊥
 words_fit [] is = cc
-words_fit (word ∷ []) is = chosen (bytes_eq word (codes "play")) _ _ _ _ is (λ is. cc) (λ is. chosen (bytes_eq word (codes "locks")) _ _ _ _ is (λ is. cc) (λ is. cc))
+words_fit (word ∷ []) is =
+    chosen (bytes_eq word (codes "play")) _ _ _ _ is (λ is. cc)
+    (λ is. chosen (bytes_eq word (codes "locks")) _ _ _ _ is (λ is. cc)
+    (λ is. chosen (bytes_eq word (codes "wire")) _ _ _ _ is (λ is. cc) (λ is. cc)))
 words_fit (word ∷ other ∷ words) is = cc
 
 -- what was read is no more than the part

@@ -2,3 +2,4 @@ mod Within
 mod Header
 mod Played
 mod Answering
+mod WireAnswering

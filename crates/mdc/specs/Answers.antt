@@ -15,6 +15,7 @@ use Rattle.mdc.specs.Call.{usage_line, read_fault_line, script_line, trace_full_
 use Rattle.mdc.specs.LockAnswers.{LockAnswers}
 use Rattle.mdc.specs.Opened.{Stand}
 use Rattle.mdc.specs.Playing.{Playing, FindsFull}
+use Rattle.mdc.specs.WireAnswers.{WireAnswers}
 use Rattle.mdc.specs.declared.status.Status.{Status}
 use Rattle.mdc.specs.declared.status.Status.TheVariants as statuses
 
@@ -137,6 +138,7 @@ NoCommandAnswers o status = ⊥
 abbrev pub AnswersTo : Result Command WordsEnd → Outside → Status → Type 0
 AnswersTo (Ok commands.Play) o status = PlayAnswers o status
 AnswersTo (Ok commands.Locks) o status = LockAnswers o status
+AnswersTo (Ok commands.Wire) o status = WireAnswers o status
 AnswersTo (Err end) o status = NoCommandAnswers o status
 
 -- what each status says, by the words

@@ -5,3 +5,4 @@ pub mod LockAnswers
 pub mod Opened
 pub mod Playing
 pub mod QueryAnswers
+pub mod WireAnswers

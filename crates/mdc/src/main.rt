@@ -1,4 +1,5 @@
-//! `mdc` plays scripts of cluster events over a mirror's legs, and runs scripts of a lock space.
+//! `mdc` plays scripts of cluster events over a mirror's legs, and runs scripts of a lock space, which
+//! may be spread over nodes.
 #![tactic(auto)]
 
 ghost use Rattle.std.specs.Prelude.{◌≡◌, drop};
@@ -13,6 +14,7 @@ mod queries;
 mod status;
 #[cfg(test)]
 mod tests;
+mod wire;
 
 use crate::play::play;
 use crate::status::Status;

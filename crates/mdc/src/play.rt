@@ -11,6 +11,7 @@ use crate::endings::tell_fault;
 use crate::locks::lock_bytes;
 use crate::playing::{LinesEnd, play_lines};
 use crate::status::Status;
+use crate::wire::wire_bytes;
 use mdc_types::Failed;
 use script_text::{
     Command, InputEnd, Script, ScriptEnd, Sink, Source, TextOut, WordsEnd, read_input, read_script,
@@ -62,8 +63,8 @@ fn last_line<K: Sink>(out: &mut TextOut, sink: &mut K, line: &[u8]) -> Result<()
 }
 
 /// What `mdc` does: it reads the words, and the script from the source. With `play` it plays it
-/// over legs in memory, with `locks` it runs it in a lock space, and it writes one line of text for
-/// each line of the script.
+/// over legs in memory, with `locks` it runs it in a lock space, with `wire` in one that is spread
+/// over nodes, and it writes one line of text for each line of the script.
 ///
 /// It waits for nobody and returns, whatever the bytes are. `Answers` says for each status when it
 /// comes and what was written. Whatever the status, nothing was taken from the source that stands
@@ -92,6 +93,7 @@ pub fn play<S: Source, K: Sink>(
             Ok(bytes) => match command {
                 Command::Play => play_bytes(alloc, bytes.as_slice(), sink),
                 Command::Locks => lock_bytes(alloc, bytes.as_slice(), sink),
+                Command::Wire => wire_bytes(alloc, bytes.as_slice(), sink),
             },
             Err(InputEnd::Failed) => match write_all(sink, b"read-fault\n") {
                 Ok(()) => Status::ReadFault,

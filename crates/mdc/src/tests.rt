@@ -46,6 +46,12 @@ const RECOVERY_SAYS: &str =
 const LOCKS: &str =
     "ask 0 message EX\ngrant message\nconvert 0 message CW\nrelease 1 message\nend\nfrob\n";
 
+const WIRE: &str =
+    "nodes 2\nask 0 token CR\ndeliver 0 0\nserve token\ndeliver 0 0\nconvert 0 token EX\ndeliver 0 0\nserve token\nholds 0 token\ndeliver 0 0\nholds 0 token\nend\nfrob\n";
+
+const WIRE_SAYS: &str =
+    "asked\ntook ask\ngranted 0 CR\ntook granted\nasked\ntook convert\ngranted 0 EX\nholds 0 CR\ntook granted\nholds 0 EX\n";
+
 // The words, the script, the read and the write that fail, the number of the status and the text.
 const CALLS: &[(&str, &str, u32, u32, u8, &str)] = &[
     (
@@ -77,14 +83,19 @@ const CALLS: &[(&str, &str, u32, u32, u8, &str)] = &[
         0,
         "asked\ngranted 0 EX\nconverted\nrefused not-held\n",
     ),
+    ("wire", WIRE, NEVER, NEVER, 0, WIRE_SAYS),
     ("frob", FIRST, NEVER, NEVER, 2, "usage\n"),
     ("", FIRST, NEVER, NEVER, 2, "usage\n"),
     ("play", "", NEVER, NEVER, 3, "script 1 no-array\n"),
     ("locks", "", NEVER, NEVER, 3, "script 1 no-end\n"),
+    ("wire", "", NEVER, NEVER, 3, "script 1 no-array\n"),
     ("play", "frob\n", 1, NEVER, 5, "read-fault\n"),
     ("locks", LOCKS, 1, NEVER, 5, "read-fault\n"),
+    ("wire", WIRE, 1, NEVER, 5, "read-fault\n"),
     ("play", FIRST, NEVER, 0, 6, ""),
     ("locks", LOCKS, NEVER, 0, 6, ""),
+    ("wire", WIRE, NEVER, 0, 6, ""),
+    ("wire", "nodes 0\n", NEVER, 0, 6, ""),
     // The last line of a call that comes to nothing is a write too.
     ("frob", FIRST, NEVER, 0, 6, ""),
     ("play", "frob\n", NEVER, 0, 6, ""),
