@@ -13,16 +13,16 @@ use Rattle.dlm_space.specs.Sound.{held_in, holds_writer}
 use Rattle.dlm_space.specs.declared.answers.Converted.TheVariants.{Now, Queued}
 use Rattle.dlm_space.specs.declared.answers.Granted.{Granted}
 use Rattle.lock_wire.specs.Packets.{first, rest}
-use Rattle.lock_wire.specs.Machine.{Wire, Ward, with_cell, master_of, lock_at, first_awaited, calls_unless, written, reported_one, reported, received, told, served_to, heir, without_node, taken_over, convert_writes, release_writes, entered, taken_report, with_table, asking, converts, releases, heirs_ward, serve_answer}
+use Rattle.lock_wire.specs.Machine.{Wire, with_cell, master_of, lock_at, first_awaited, calls_unless, written, reported_one, reported, received, told, served_to, heir, without_node, taken_over, convert_writes, release_writes, entered, taken_report, with_table, asking, converts, releases, heirs_ward, serve_answer}
 use Rattle.lock_wire.specs.declared.local.Local.{Local}
 use Rattle.lock_wire.specs.declared.local.Local.TheVariants.{Free, Asking, Held, Converting}
 use Rattle.lock_wire.specs.declared.packet.Packet.{Packet}
 use Rattle.lock_wire.specs.declared.packet.Packet.TheVariants as packets
 use Rattle.lock_wire.proofs.Wires.{reported-zero, reported-suc}
-use Rattle.laws_wire.specs.Runs.{Call, Asks, Converts, Releases, Delivers, Serves, Dies, effect, AreAccepted, wire_after}
-use Rattle.laws_wire.specs.Views.{Word, Converted, Released, words}
-use Rattle.laws_wire.specs.Made.{converting, reporting, hearing, serving, dying, made_at, made_in}
-use Rattle.laws_wire.specs.Fresh.{writes, wrote_in, taken_over_at, taken_over_in, is_stale, BlocksAreTold}
+use Rattle.laws_wire.specs.Runs.{Call, Asks, Converts, Releases, Delivers, Serves, Dies, AreAccepted, wire_after}
+use Rattle.laws_wire.specs.Views.{Converted, Released, words}
+use Rattle.laws_wire.specs.Made.{converting, reporting, hearing, serving, dying, made_in}
+use Rattle.laws_wire.specs.Fresh.{writes, wrote_in, taken_over_in, is_stale, BlocksAreTold}
 use Rattle.laws_wire.specs.Invariants.{Inv}
 use Rattle.laws_wire.proofs.Steps.{same_or}
 use Rattle.laws_wire.proofs.Wires.{own_test, other_word, self_test, differ_test}

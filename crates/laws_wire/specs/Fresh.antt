@@ -1,5 +1,5 @@
 -- When the block of a resource is told as valid, by the calls alone.
-use Rattle.std.specs.Prelude.{◌≡◌, ℕ, ◌<◌, ◌==◌, Bool, true, false, not, ◌&&◌, ◌||◌, is_some, List, [], ◌∷◌, Some}
+use Rattle.std.specs.Prelude.{◌≡◌, ℕ, ◌<◌, ◌==◌, Bool, false, not, ◌&&◌, ◌||◌, is_some, List, [], ◌∷◌, Some}
 use Rattle.std.specs.Option.{option_map}
 use Rattle.dlm_space.specs.Calls
 use Rattle.dlm_space.specs.Locks.{grant_answer}
