@@ -7,4 +7,5 @@ pub mod Wires
 pub mod RunsKept
 pub mod Made
 pub mod Fresh
+pub mod First
 pub mod Tickets

@@ -4,4 +4,5 @@ pub mod Invariants
 pub mod Tickets
 pub mod Made
 pub mod Fresh
+pub mod First
 pub mod Sound

@@ -1,4 +1,5 @@
 //! What holds over every list of calls of a spread lock space.
+ghost use Rattle.laws_wire.specs.First.{ReportsComeFirst};
 ghost use Rattle.laws_wire.specs.Fresh.{BlocksAreTold};
 ghost use Rattle.laws_wire.specs.Sound.{WiresAreSound};
 
@@ -17,9 +18,17 @@ pub fn wires_are_sound()
     ensures { WiresAreSound }
 {}
 
-/// After every list of accepted calls a serve answers what the lock space of its master's calls answers, but
-/// that the block isn't told as valid where the resource was taken over from a master that died, and none of
-/// the calls that its master made since then gave the block a value from PW or EX.
+/// After every list of accepted calls a serve answers what the lock space of its master's calls
+/// answers, but that the block isn't told as valid where the resource was taken over from a master
+/// that died, and none of the calls that its master made since then gave the block a value from PW
+/// or EX.
 pub fn blocks_are_told()
     ensures { BlocksAreTold }
+{}
+
+/// After every list of accepted calls, while the report of a live node is on its way to a
+/// resource's master, the master has made no call of that node on the resource since it took it
+/// over. So of each node the master's calls begin with those that its report tells.
+pub fn reports_come_first()
+    ensures { ReportsComeFirst }
 {}

@@ -3,4 +3,4 @@
 
 mod laws;
 
-pub use laws::{blocks_are_told, wires_are_sound};
+pub use laws::{blocks_are_told, reports_come_first, wires_are_sound};

@@ -26,7 +26,8 @@ pub record ReadsNoWire (o : Outside) (fault : ScriptFault) : Type 0 where
 -- first lines
 pub data WireCut (o : Outside) : Type 0 where
   at_input : Rose o.source_faults o.source_faults_after → WroteLess o read_fault_line → WireCut o
-  at_fault : {fault : ScriptFault} → ReadsNoWire o fault → WroteLess o (script_line fault) → WireCut o
+  at_fault : {fault : ScriptFault} → ReadsNoWire o fault → WroteLess o (script_line fault)
+      → WireCut o
   in_run : {script : WireValue} → ReadsWire o script
       → RanCut script.nodes script.lines o.written o.written_after → WireCut o
 
@@ -54,7 +55,8 @@ WireAnswers o statuses.TraceFull = ⊥
 -- how bytes were judged and run, and what was written
 abbrev pub WireJudged : List ℕ → Option (List ℕ) → Option (List ℕ) → Status → Type 0
 WireJudged bytes written now statuses.Done =
-    (script : WireValue) × (IsWireScript bytes script × RanAll script.nodes script.lines written now)
+    (script : WireValue)
+    × (IsWireScript bytes script × RanAll script.nodes script.lines written now)
 WireJudged bytes written now (statuses.Script fault) =
     (wire_script_of bytes ≡ None) × (fault ≡ wire_fault_of bytes)
     × (now ≡ with_back written (script_line fault))

@@ -1,5 +1,5 @@
-//! `mdc` plays scripts of cluster events over a mirror's legs, and runs scripts of a lock space, which
-//! may be spread over nodes.
+//! `mdc` plays scripts of cluster events over a mirror's legs, and runs scripts of a lock space,
+//! which may be spread over nodes.
 #![tactic(auto)]
 
 ghost use Rattle.std.specs.Prelude.{◌≡◌, drop};

@@ -4,7 +4,8 @@ use Rattle.dlm_modes.specs.declared.mode.Mode.{Mode}
 use Rattle.lock_wire.specs.declared.packet.Taken.{Taken}
 use Rattle.lock_wire.specs.declared.packet.Taken.TheVariants as kinds
 use Rattle.report_text.specs.declared.wire.WireReply.{WireReply}
-use Rattle.report_text.specs.declared.wire.WireReply.TheVariants.{Asked, Converted, Released, Took, Granted, Died, Holds, Refused, Denied}
+use Rattle.report_text.specs.declared.wire.WireReply.TheVariants.{Asked, Converted, Released, Took}
+use Rattle.report_text.specs.declared.wire.WireReply.TheVariants.{Granted, Died, Holds, Refused, Denied}
 use Rattle.report_text.specs.Lines.{line}
 use Rattle.report_text.specs.Locks.{lock_refusal_values}
 use Rattle.report_text.specs.Refusals.{refusal_line}

@@ -81,7 +81,8 @@ fn held_field(held: Option<Mode>) -> Field<'static>
 }
 
 fn refused_text(alloc: Global, why: &Refusal) -> Result<String, AllocError>
-    ensures { IfOk result (λ t. string_bytes t ≡ line (codes "refused") (refusal_line why.now ∷ [])) }
+    ensures { IfOk result (λ t.
+        string_bytes t ≡ line (codes "refused") (refusal_line why.now ∷ [])) }
 {
     let mut text = String::from_str(alloc, "refused ")?;
     text.push_str(refusal_text(alloc, why)?.as_str())?;

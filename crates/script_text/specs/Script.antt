@@ -104,10 +104,10 @@ setup_in first s n room (line ∷ lines) =
 abbrev pub new_setup : Start → Setup
 new_setup start = record { start = start; faults = [] }
 
--- line n is skipped, or is the header: what follows is the same, or what comes after the header, where `of` says what
--- a header's first word and the words after it are
-abbrev pub header_then : {H S : Type 0} → (List ℕ → List (List ℕ) → Result H FaultKind) → ℕ → Result (List (List ℕ)) FaultKind
-    → Result S ScriptFault → (H → Result S ScriptFault) → Result S ScriptFault
+-- line n is skipped, or is the header: what follows is the same, or what comes after the header, where
+-- `of` says what a header's first word and the words after it are
+abbrev pub header_then : {H S : Type 0} → (List ℕ → List (List ℕ) → Result H FaultKind) → ℕ
+    → Result (List (List ℕ)) FaultKind → Result S ScriptFault → (H → Result S ScriptFault) → Result S ScriptFault
 header_then of n (Err kind) later after = at_line n (Err kind)
 header_then of n (Ok []) later after = later
 header_then of n (Ok (word ∷ args)) later after = at_line n (of word args) >>= after

@@ -1,6 +1,8 @@
--- The grammar of the scripts of a lock space that is spread over nodes. `Err` is outside it, and tells what is
--- wrong with a line: its first kind, in the order long, utf8, no-array, word, count, number, range, no-end.
-use Rattle.std.specs.Prelude.{◌≡◌, ℕ, ◌+◌, ◌-◌, nat_le, ◌&&◌, if◌then◌else◌, List, [], ◌∷◌, length, codes}
+-- The grammar of the scripts of a lock space that is spread over nodes. `Err` is outside it, and tells
+-- what is wrong with a line: its first kind, in the order long, utf8, no-array, word, count, number,
+-- range, no-end.
+use Rattle.std.specs.Prelude.{◌≡◌, ℕ, ◌+◌, ◌-◌, nat_le, ◌&&◌, if◌then◌else◌}
+use Rattle.std.specs.Prelude.{List, [], ◌∷◌, length, codes}
 use Rattle.std.specs.Prelude.{Option, Some, None, Result, Ok, Err, ok_or}
 use Rattle.std.specs.Result.{result_ok}
 use Rattle.std.specs.Str.{bytes_eq}
@@ -16,7 +18,8 @@ use Rattle.script_text.specs.declared.faults.FaultKind.{FaultKind}
 use Rattle.script_text.specs.declared.faults.FaultKind.TheVariants as kinds
 use Rattle.script_text.specs.Judging.{◌>>=◌, at_line}
 use Rattle.script_text.specs.Lines.{lines_of, script_limit, two, three, second, third}
-use Rattle.script_text.specs.Arguments.{byte_word, res_word, mode_word, fits_res, fits_mode, fitting}
+use Rattle.script_text.specs.Arguments.{byte_word, res_word, mode_word}
+use Rattle.script_text.specs.Arguments.{fits_res, fits_mode, fitting}
 use Rattle.script_text.specs.Arguments.{one_byte, one_number, two_bytes, one_res}
 use Rattle.script_text.specs.Reading.{body_at}
 use Rattle.script_text.specs.Script.{said_by, header_then, body_of, fault_in}
@@ -113,8 +116,8 @@ IsWireLine (calls.Serve res) = IsResource res
 IsWireLine (calls.Die node) = Unit {0}
 IsWireLine (calls.Holds node res) = IsResource res
 
--- The whole script: the header, and then the lines up to the line `end`, with the skipping, the room and the count
--- of lines of every script.
+-- The whole script: the header, and then the lines up to the line `end`, with the skipping, the room
+-- and the count of lines of every script.
 
 abbrev pub with_nodes : ℕ → Result (List WireLine) ScriptFault → Result WireValue ScriptFault
 with_nodes nodes lines = do
@@ -149,7 +152,8 @@ ReadsWire (Ok script) bytes = IsWireScript bytes script
 ReadsWire (Err (Fault fault)) bytes = (wire_script_of bytes ≡ None) × (fault ≡ wire_fault_of bytes)
 ReadsWire (Err Memory) bytes = Unit {0}
 
--- What a reader found of the header: the number of nodes, where the next line begins, and its number.
+-- What a reader found of the header: the number of nodes, where the next line begins, and that
+-- line's number.
 abbrev pub ReadsNodes : List ℕ → Result (ℕ × ℕ × ℕ) ScriptFault → Type 0
 ReadsNodes bytes (Err fault) = wire_judged bytes ≡ Err fault
 ReadsNodes bytes (Ok x) = wire_judged bytes ≡ with_nodes x.0 (body_at wire_line_of bytes x.1 x.2)

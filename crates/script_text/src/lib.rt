@@ -19,8 +19,9 @@
 //! `PR`, `PW` and `EX`.
 //!
 //! A wire script has the header `nodes N` of 1 to 16 nodes. Its lines are `ask N RES MODE`,
-//! `convert N RES MODE`, `release N RES`, `deliver FROM TO`, `serve RES`, `die N` and `holds N RES`, with
-//! the same skipped lines, the same line `end` and the same limit. Its nodes are 0 to 255.
+//! `convert N RES MODE`, `release N RES`, `deliver FROM TO`, `serve RES`, `die N` and
+//! `holds N RES`, with the same skipped lines, the same line `end` and the same limit. Its nodes
+//! are 0 to 255.
 //!
 //! Of bytes that are no script the first line outside the grammar is told, and what is wrong with it.
 #![tactic(auto)]

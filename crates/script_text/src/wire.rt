@@ -2,7 +2,8 @@ ghost use Rattle.std.specs.Prelude.{◌≡◌, ◌≤◌, ◌+◌, IfOk};
 ghost use Rattle.std.specs.List.{AllByRecursion};
 ghost use Rattle.std.specs.Option.{option_copied};
 ghost use Rattle.script_text.specs.Lines.{words_after, script_limit};
-ghost use Rattle.script_text.specs.Wire.{nodes_in, nodes_of, byte_res_mode, byte_res, wire_line_of, IsWireLine, ReadsNodes, ReadsWire};
+ghost use Rattle.script_text.specs.Wire.{nodes_in, nodes_of, byte_res_mode, byte_res};
+ghost use Rattle.script_text.specs.Wire.{wire_line_of, IsWireLine, ReadsNodes, ReadsWire};
 
 use crate::arguments::{
     fits_mode, fits_res, mode_word, one_byte, one_number, one_res, res_word, two_bytes,

@@ -1,4 +1,5 @@
--- What one line of a wire script does in a lock space that is spread over nodes, and what is replied to it.
+-- What one line of a wire script does in a lock space that is spread over nodes, and what is replied
+-- to it.
 use Rattle.std.specs.Prelude.{◌≡◌, ◌⊎◌, List, ◌∷◌, Option, Some, None}
 use Rattle.std.specs.Option.{option_map}
 use Rattle.dlm_space.specs.declared.answers.Converted.{Converted}
@@ -9,7 +10,8 @@ use Rattle.lock_wire.specs.Machine.{Wire, answer_from, serve_answer, holds_of}
 use Rattle.lock_wire.specs.Packets.{first, kind_of}
 use Rattle.lock_wire.specs.declared.ends.WireEnd.{WireEnd}
 use Rattle.lock_wire.specs.declared.ends.WireEnd.TheVariants as ends
-use Rattle.laws_wire.specs.Runs.{Call, Asks, Converts, Releases, Delivers, Serves, Dies, refusal, effect, IsAccepted}
+use Rattle.laws_wire.specs.Runs.{Call, Asks, Converts, Releases, Delivers, Serves, Dies}
+use Rattle.laws_wire.specs.Runs.{refusal, effect, IsAccepted}
 use Rattle.script_text.specs.declared.wire.WireLine.{WireLine}
 use Rattle.script_text.specs.declared.wire.WireLine.TheVariants as lines
 use Rattle.report_text.specs.declared.wire.WireReply.{WireReply}
@@ -32,8 +34,8 @@ conversion_reply Queued = replies.Asked
 abbrev pub grant_reply : Granted → WireReply
 grant_reply g = replies.Granted g.node g.mode
 
--- what is replied to an accepted call: of a conversion whether it waits, of a delivery the kind of the packet, of
--- a serve whom it served
+-- what is replied to an accepted call: of a conversion whether it waits, of a delivery the kind of the
+-- packet, of a serve whom it served
 abbrev pub reply_to : Wire → Call → Option WireReply
 reply_to w (Asks n r mode) = Some replies.Asked
 reply_to w (Converts n r mode value) = option_map conversion_reply (answer_from (w.local n r) mode)

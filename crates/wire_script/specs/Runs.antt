@@ -20,7 +20,8 @@ pub record TakesLine (w : Wire) (line : WireLine) (later : Wire) (text : List �
   pub says : text ≡ reply_text reply
 
 -- one line after others: it meets the state that their accepted calls left
-pub record AddsLine (nodes : ℕ) (Earlier : List Call → List ℕ → Type 0) (line : WireLine) (past : List Call) (text : List ℕ) : Type 0 where
+pub record AddsLine (nodes : ℕ) (Earlier : List Call → List ℕ → Type 0) (line : WireLine)
+    (past : List Call) (text : List ℕ) : Type 0 where
   pub before : List Call
   pub said : List ℕ
   pub earlier : Earlier before said
@@ -30,13 +31,14 @@ pub record AddsLine (nodes : ℕ) (Earlier : List Call → List ℕ → Type 0) 
   pub calls : past ≡ calls_with before called
   pub says : text ≡ said ++ reply_text reply
 
--- The lines, the newest first, from so many live nodes on, where nothing is asked or held: these calls were accepted, the
--- newest first, and this text is printed for the lines in their order.
+-- The lines, the newest first, from so many live nodes on, where nothing is asked or held: these calls
+-- were accepted, the newest first, and this text is printed for the lines in their order.
 abbrev pub Runs : ℕ → List WireLine → List Call → List ℕ → Type 0
 Runs nodes [] past text = (past ≡ []) × (text ≡ [])
 Runs nodes (line ∷ lines) past text = AddsLine nodes (Runs nodes lines) line past text
 
--- These lines were run. Each of the calls was accepted in its turn, so what holds of every such list of calls holds of it.
+-- These lines were run. Each of the calls was accepted in its turn, so what holds of every such list of
+-- calls holds of it.
 pub record Ran (nodes : ℕ) (lines : List WireLine) (past : List Call) (text : List ℕ) : Type 0 where
   pub runs : Runs nodes (reverse lines) past text
   pub accepted : AreAccepted nodes past
@@ -50,7 +52,8 @@ pub record RanAll (nodes : ℕ) (lines : List WireLine) (written now : Option (L
   pub wrote : now ≡ with_back written text
 
 -- the first lines were run, but not all, and their text was written
-pub record RanSome (nodes : ℕ) (lines : List WireLine) (written now : Option (List ℕ)) : Type 0 where
+pub record RanSome (nodes : ℕ) (lines : List WireLine) (written now : Option (List ℕ))
+    : Type 0 where
   pub count : ℕ
   pub few : count < length lines
   pub first : RanAll nodes (take count lines) written now
@@ -67,8 +70,10 @@ pub record RanCut (nodes : ℕ) (lines : List WireLine) (written now : Option (L
   pub ran : Ran nodes (take count lines) past text
   pub wrote : WroteFront written text now
 
--- the lines so far, the state that they left, and their text: a front of it was written, and the rest waits
-pub record SoFar (nodes : ℕ) (lines : List WireLine) (w : Wire) (written : Option (List ℕ)) (waiting : List ℕ) (now : Option (List ℕ)) : Type 0 where
+-- the lines so far, the state that they left, and their text: a front of it was written, and the rest
+-- waits
+pub record SoFar (nodes : ℕ) (lines : List WireLine) (w : Wire) (written : Option (List ℕ))
+    (waiting : List ℕ) (now : Option (List ℕ)) : Type 0 where
   pub past : List Call
   pub text : List ℕ
   pub runs : Runs nodes (reverse lines) past text

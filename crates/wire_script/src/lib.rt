@@ -1,5 +1,5 @@
-//! Runs a wire script: each of its lines is a call on one lock space that is spread over nodes, or the
-//! query what a node holds, and one line of text is written for each.
+//! Runs a wire script: each of its lines is a call on one lock space that is spread over nodes, or
+//! the query what a node holds, and one line of text is written for each.
 #![tactic(auto)]
 
 mod replies;

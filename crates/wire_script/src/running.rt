@@ -104,13 +104,13 @@ fn run_lines<K: Sink>(
     }
 }
 
-/// Runs the lines in order in a new lock space that is spread over so many nodes, and writes a line of
-/// text for each, through `out`, where nothing may wait before and nothing waits after.
+/// Runs the lines in order in a new lock space that is spread over so many nodes, and writes a line
+/// of text for each, through `out`, where nothing may wait before and nothing waits after.
 ///
-/// The calls that are accepted are a list of which `laws_wire`'s law of all such lists speaks, so no two
-/// nodes ever hold what disagrees, whichever masters died and in whatever order the links delivered. A
-/// call that is refused changes nothing. Where a write fails, a front of the text of the first lines was
-/// written; where memory is wanting, all of it.
+/// The calls that are accepted are a list of which `laws_wire`'s law of all such lists speaks, so no
+/// two nodes ever hold what disagrees, whichever masters died and in whatever order the links
+/// delivered. A call that is refused changes nothing. Where a write fails, a front of the text of
+/// the first lines was written; where memory is wanting, all of it.
 pub fn run_wire<K: Sink>(
     alloc: Global,
     nodes: u8,
