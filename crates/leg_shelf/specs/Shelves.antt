@@ -13,6 +13,10 @@ use Rattle.leg_shelf.specs.declared.shelf.ShelfEnd.TheVariants.{Failed, Memory}
 abbrev pub Files : Type 0
 Files = List ℕ → Option (List ℕ)
 
+-- of a shelf that doesn't tell
+abbrev pub untold : Option Files
+untold = None
+
 -- a call failed, and didn't want memory
 abbrev pub is_fault : ShelfEnd → Bool
 is_fault Failed = true

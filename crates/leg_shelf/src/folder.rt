@@ -1,15 +1,16 @@
-ghost use Rattle.std.specs.Prelude.{◌≡◌, ◌≤◌, OnOk, OnErr, true, false};
+ghost use Rattle.std.specs.Prelude.{◌≡◌, ◌≢◌, ◌≤◌, OnOk, OnErr, IfOk, IfSome, MatchResult, Some, true, false};
+ghost use Rattle.std.specs.Option.{option_map};
 ghost use Rattle.mdc_types.specs.Faults.{HasCause, Rose};
-ghost use Rattle.leg_shelf.specs.Shelves.{is_fault};
+ghost use Rattle.leg_shelf.specs.Shelves.{is_fault, failed, untold, GivesBytes, GivesSize, GivesLeg, put_file, OthersStay};
 ghost use Rattle.leg_shelf.specs.Names.{is_file_name};
 
 use crate::{PagedLeg, Shelf, ShelfEnd, is_file_name};
+use leg_store::LegDev;
 use std::alloc::AllocError;
-use std::fs;
 use std::fs::{OpenFile, OpenOptions};
-use std::io;
 use std::io::ErrorKind;
 use std::rt::Files;
+use std::{fs, io};
 
 /// The files of the current folder. A leg is the open file (`PagedLeg`).
 ///
@@ -37,6 +38,7 @@ impl<'r, R: Files + AllocGlobal> FolderShelf<'r, R> {
 
     // The fault of a call, which is counted, or want of memory.
     fn end(&mut self, kind: ErrorKind) -> ShelfEnd
+        ensures fault { kind ≢ ErrorKind.OutOfMemory → is_fault result ≡ true }
         ensures later { self.old.faults ≤ self.new.faults }
         ensures rose { is_fault result ≡ true → Rose self.old.faults self.new.faults }
         ensures legs { self.new.leg_faults ≡ self.old.leg_faults }
@@ -63,7 +65,7 @@ impl<'r, R: Files + AllocGlobal> FolderShelf<'r, R> {
     // Refuses a name that may lead out of the folder.
     fn check(&mut self, name: &str) -> Result<(), ShelfEnd>
         ensures ok { OnOk result ((self.new ≡ self.old) × (is_file_name name.now ≡ true)) }
-        ensures err { OnErr result (is_file_name name.now ≡ false) }
+        ensures err { is_file_name name.now ≡ false → failed result ≡ true }
         ensures legs { self.new.leg_faults ≡ self.old.leg_faults }
         ensures cause { HasCause is_fault self.old.faults self.new.faults result }
     {
@@ -93,13 +95,31 @@ impl<'r, R: Files + AllocGlobal> Shelf for FolderShelf<'r, R> {
 
     ghost leg_faults = { λ s. s.leg_faults };
 
-    fn load(&mut self, name: &str) -> Result<Option<Vec<u8>>, ShelfEnd> {
+    fn load(&mut self, name: &str) -> Result<Option<Vec<u8>>, ShelfEnd>
+        ensures inside { is_file_name name.now ≡ false → failed result ≡ true }
+
+        // What every shelf promises.
+        ensures bytes { IfOk result (λ found.
+            GivesBytes untold name.now (option_map (λ v. v.items) found)) }
+        ensures contents { untold ≡ untold }
+        ensures legs { self.new.leg_faults ≡ self.old.leg_faults }
+        ensures cause { HasCause is_fault self.old.faults self.new.faults result }
+    {
         self.check(name)?;
         let answer = fs::read(self.rt, name);
         self.found(answer)
     }
 
-    fn store(&mut self, name: &str, bytes: &[u8]) -> Result<(), ShelfEnd> {
+    fn store(&mut self, name: &str, bytes: &[u8]) -> Result<(), ShelfEnd>
+        ensures inside { is_file_name name.now ≡ false → failed result ≡ true }
+
+        // What every shelf promises.
+        ensures contents { MatchResult result
+            (λ _. untold ≡ put_file untold name.now (Some bytes.now))
+            (λ _. OthersStay untold name.now untold) }
+        ensures legs { self.new.leg_faults ≡ self.old.leg_faults }
+        ensures cause { HasCause is_fault self.old.faults self.new.faults result }
+    {
         self.check(name)?;
         match fs::write(self.rt, name, bytes) {
             Ok(()) => Ok(()),
@@ -107,13 +127,31 @@ impl<'r, R: Files + AllocGlobal> Shelf for FolderShelf<'r, R> {
         }
     }
 
-    fn size(&mut self, name: &str) -> Result<Option<u64>, ShelfEnd> {
+    fn size(&mut self, name: &str) -> Result<Option<u64>, ShelfEnd>
+        ensures inside { is_file_name name.now ≡ false → failed result ≡ true }
+
+        // What every shelf promises.
+        ensures size { IfOk result (λ found. GivesSize untold name.now found) }
+        ensures contents { untold ≡ untold }
+        ensures legs { self.new.leg_faults ≡ self.old.leg_faults }
+        ensures cause { HasCause is_fault self.old.faults self.new.faults result }
+    {
         self.check(name)?;
         let answer = fs::metadata(self.rt, name);
         Ok(self.found(answer)?.map(|data| data.len()))
     }
 
-    fn open_leg(&mut self, name: &str) -> Result<Option<PagedLeg<R::File>>, ShelfEnd> {
+    fn open_leg(&mut self, name: &str) -> Result<Option<PagedLeg<R::File>>, ShelfEnd>
+        ensures inside { is_file_name name.now ≡ false → failed result ≡ true }
+
+        // What every shelf promises.
+        ensures leg { IfOk result (λ found. GivesLeg untold name.now
+            (option_map ⟦<PagedLeg<R::File> as LegDev>⟧.contents found)) }
+        ensures sound { IfOk result (λ found. IfSome found (λ leg. leg.faults ≡ 0)) }
+        ensures contents { untold ≡ untold }
+        ensures legs { self.new.leg_faults ≡ self.old.leg_faults }
+        ensures cause { HasCause is_fault self.old.faults self.new.faults result }
+    {
         self.check(name)?;
         let answer = open_file(self.rt, name);
         match self.found(answer)? {

@@ -7,6 +7,8 @@ mod names;
 mod paged;
 mod sectors;
 mod shelf;
+#[cfg(test)]
+mod tests;
 
 pub use folder::FolderShelf;
 pub use memory::MemShelf;

@@ -1,4 +1,4 @@
-ghost use Rattle.std.specs.Prelude.{◌≡◌, ◌≤◌, ◌+◌, [], Some, None, Ok, MatchResult, IfOk, IfSome, OnOk, OnErr, IsTrue, true, is_err, nat_eq};
+ghost use Rattle.std.specs.Prelude.{◌≡◌, ◌≤◌, ◌+◌, [], Some, None, Ok, MatchResult, IfOk, IfSome, OnOk, OnErr, IsTrue, true, unwrap_or, nat_eq};
 ghost use Rattle.std.specs.List.{list_any};
 ghost use Rattle.std.specs.Option.{option_map};
 ghost use Rattle.mdc_types.specs.Faults.{HasCause, Rose};
@@ -81,6 +81,23 @@ impl MemShelf {
         self.calls
     }
 
+    // Which transfers fail of a leg that is opened under the name.
+    fn plan(&self, name: &str) -> Result<Vec<(u32, Left)>, AllocError>
+        ensures { IfOk result (λ plan. plan.items ≡ unwrap_or ((mem_of self.now).plans name.now) []) }
+    {
+        match self.plans.get(name) {
+            None => Ok(Vec::new(self.alloc)),
+            Some(plan) => plan.clone(),
+        }
+    }
+
+    fn leg(&self, name: &str, bytes: &[u8]) -> Result<MemLeg, AllocError>
+        ensures { IfOk result (λ leg. leg ≡ leg_of (mem_of self.now) name.now bytes.now) }
+    {
+        let sectors = sectors_in(self.alloc, bytes)?;
+        Ok(MemLeg::new(sectors, self.plan(name)?))
+    }
+
     // What the name has once the leg is back: its sectors, and what it had past them.
     fn closed(&self, name: &str, leg: &MemLeg) -> Result<Vec<u8>, AllocError>
         ensures { IfOk result (λ bytes.
@@ -92,6 +109,21 @@ impl MemShelf {
             bytes.extend_from_slice(past(old, 512 * leg.length() as usize))?;
         }
         Ok(bytes)
+    }
+
+    // A call that stores what the name has once the leg is back.
+    fn put_back(&mut self, name: &str, leg: &MemLeg) -> Result<(), ShelfEnd>
+        ensures fails { failed result ≡ call_fails (mem_of self.old) }
+        ensures contents { MatchResult result
+            (λ _. TakesLeg (told (mem_of self.old)) name.now (mem_leg.told leg.now) (told (mem_of self.new)))
+            (λ _. OthersStay (told (mem_of self.old)) name.now (told (mem_of self.new))) }
+        ensures legs { (mem_of self.new).leg_faults ≡ (mem_of self.old).leg_faults }
+        ensures cause { HasCause is_fault (mem_of self.old).faults (mem_of self.new).faults result }
+    {
+        self.count_call()?;
+        let bytes = self.closed(name, leg)?;
+        self.put(name, bytes)?;
+        Ok(())
     }
 
     // Counts a call, and says whether it fails.
@@ -190,15 +222,10 @@ impl Shelf for MemShelf {
         ensures cause { HasCause is_fault (mem_of self.old).faults (mem_of self.new).faults result }
     {
         self.count_call()?;
-        let sectors = match self.files.get(name) {
-            None => return Ok(None),
-            Some(bytes) => sectors_in(self.alloc, bytes)?,
-        };
-        let failing = match self.plans.get(name) {
-            None => Vec::new(self.alloc),
-            Some(plan) => plan.clone()?,
-        };
-        Ok(Some(MemLeg::new(sectors, failing)))
+        match self.files.get(name) {
+            None => Ok(None),
+            Some(bytes) => Ok(Some(self.leg(name, bytes)?)),
+        }
     }
 
     fn close_leg(&mut self, name: &str, leg: MemLeg) -> Result<(), ShelfEnd>
@@ -212,9 +239,6 @@ impl Shelf for MemShelf {
         ensures cause { HasCause is_fault (mem_of self.old).faults (mem_of self.new).faults result }
     {
         self.leg_faults = self.leg_faults.saturating_add(leg.faults());
-        self.count_call()?;
-        let bytes = self.closed(name, &leg)?;
-        self.put(name, bytes)?;
-        Ok(())
+        self.put_back(name, &leg)
     }
 }

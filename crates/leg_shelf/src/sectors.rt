@@ -1,4 +1,4 @@
-ghost use Rattle.std.specs.Prelude.{◌≡◌, ◌+◌, ◌*◌, ◌≤◌, ◌++◌, drop, length, IfOk};
+ghost use Rattle.std.specs.Prelude.{◌≡◌, ◌+◌, ◌*◌, ◌≤◌, ◌<◌, ◌^◌, ◌++◌, vec_len, drop, length, IfOk};
 ghost use Rattle.leg_shelf.specs.Images.{sector_at, sectors_in, bytes_of};
 
 use mdc_types::Sector;
@@ -15,7 +15,8 @@ fn sector_at(bytes: &[u8], k: usize) -> Sector
 
 /// The whole sectors of the bytes, at most the first 2^32 - 1.
 pub(crate) fn sectors_in(alloc: Global, bytes: &[u8]) -> Result<Vec<Sector>, AllocError>
-    ensures { IfOk result (λ sectors. sectors.items ≡ sectors_in bytes.now) }
+    ensures sectors { IfOk result (λ sectors. sectors.items ≡ sectors_in bytes.now) }
+    ensures count { IfOk result (λ sectors. vec_len sectors < 2 ^ 32) }
 {
     let count = (bytes.len() / 512).min(u32::MAX as usize);
     let mut sectors = Vec::with_capacity(alloc, count)?;
