@@ -1,14 +1,12 @@
 -- What calls of a shelf in memory change, and what they leave as it was.
-use Rattle.std.proofs.Common.{◌≡◌, ℕ, List, ap, refl, Option, Some, None, Bool, true, false, ◌∙◌, sym, Result, Ok, Err, cond}
+use Rattle.std.proofs.Common.{◌≡◌, ℕ, List, ap, refl, Option, Some, Bool, true, false, ◌∙◌, sym, Result, Ok, Err, cond}
 use Rattle.std.proofs.Math.Path.{fun_ext}
 use Rattle.std.specs.Prelude.{MatchResult, IsErr}
-use Rattle.std.specs.HashMap.{get_by_text}
-use Rattle.std.specs.Map.{update}
 use Rattle.std.specs.Option.{option_map}
 use Rattle.std.specs.Str.{bytes_eq}
 use Rattle.std.proofs.lemmas.Slice.Eq.{bytes_eq-Decides}
 use Rattle.leg_shelf.specs.Shelves.{Files, put_file, OthersStay}
-use Rattle.leg_shelf.specs.Memory.{MemFiles, mem_of, told, with_file}
+use Rattle.leg_shelf.specs.Memory.{mem_of, told}
 use Rattle.leg_shelf.specs.declared.memory.MemShelf.{MemShelf}
 
 -- the same files are told alike

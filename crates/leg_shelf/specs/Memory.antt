@@ -1,5 +1,5 @@
 -- A shelf in memory.
-use Rattle.std.specs.Prelude.{ℕ, nat_eq, Bool, true, false, List, [], Option, Some, None, unwrap_or}
+use Rattle.std.specs.Prelude.{ℕ, nat_eq, Bool, List, [], Option, Some, unwrap_or}
 use Rattle.std.specs.Prelude.{if◌then◌else◌}
 use Rattle.std.specs.HashMap.{get_by_text}
 use Rattle.std.specs.List.{list_any}
@@ -11,7 +11,7 @@ use Rattle.leg_store.specs.Memory as leg
 use Rattle.leg_store.specs.Plans.{one_more}
 use Rattle.leg_shelf.specs.declared.memory.MemShelf.{MemShelf}
 use Rattle.leg_shelf.specs.Images.{sectors_in}
-use Rattle.leg_shelf.specs.Shelves.{Files, counted}
+use Rattle.leg_shelf.specs.Shelves.{Files}
 
 pub record MemFiles : Type 0 where
   pub files : Files
