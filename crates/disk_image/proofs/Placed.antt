@@ -10,7 +10,7 @@ use Rattle.cluster_model.specs.Opening.{Origin}
 use Rattle.disk_image.specs.Files.{leg_name}
 use Rattle.mdc_types.specs.Faults.{HasCause, Rose}
 use Rattle.leg_shelf.specs.declared.shelf.ShelfEnd.TheVariants.{Failed}
-use Rattle.disk_image.specs.declared.faults.ImageError.TheVariants.{Shelf}
+use Rattle.image_faults.specs.declared.faults.ImageError.TheVariants.{Shelf}
 use Rattle.disk_image.specs.Created.{image_of, with_images, is_shelf_fault}
 
 last_of : (name : List ℕ) (l : ℕ) → get_or (leg_name name l) (suc (length name)) 0 ≡ 48 + l

@@ -11,8 +11,8 @@ use Rattle.leg_shelf.specs.Shelves.{Files, put_file, OthersStay}
 use Rattle.cluster_model.specs.Opening.{Origin, header_at}
 use Rattle.cluster_model.specs.Contents.{header_sector}
 use Rattle.disk_image.specs.Files.{leg_name}
-use Rattle.disk_image.specs.declared.faults.ImageError.{ImageError}
-use Rattle.disk_image.specs.declared.faults.ImageError.TheVariants.{Image, Shelf, Device, Memory}
+use Rattle.image_faults.specs.declared.faults.ImageError.{ImageError}
+use Rattle.image_faults.specs.declared.faults.ImageError.TheVariants.{Image, Shelf, Device, Memory}
 
 -- what a new array opens with: as a header of its sizes, but for its name, and with no members
 abbrev pub created_at : Array → Origin

@@ -2,7 +2,6 @@
 #![tactic(auto)]
 
 mod creating;
-mod faults;
 mod image;
 mod laws;
 mod names;
@@ -10,6 +9,6 @@ mod names;
 mod tests;
 
 pub use creating::create;
-pub use faults::{ImageError, ImageFault};
+pub use image_faults::{ImageError, ImageFault};
 pub use laws::new_images_are_sound;
 pub use names::{leg_name, name_field};
