@@ -22,7 +22,6 @@ JudgesTo (Some leg) g uuid k p =
     first_such (page_is_wrong g uuid leg k) 0 (slot_pages g)
     ≡ first_such (page_is_wrong g uuid leg k) p (slot_pages g - p)
 
-
 pub judges_none : (told : Option (List Sector)) (g : Sizes) (uuid : List ℕ) (k : ℕ) → JudgesTo told g uuid k 0
 judges_none None g uuid k = tt
 judges_none (Some leg) g uuid k = let e : slot_pages g ≡ slot_pages g - 0 = omega arith in ap (first_such (page_is_wrong g uuid leg k) 0) e
@@ -73,10 +72,12 @@ in_page leg g k p c page gives same =
 pub adds_more : (told : Option (List Sector)) (g : Sizes) (k p : ℕ) (page : Sector) (old mid new : List Bool) → Gives told (page_sector g k p) page
     → AddsPage g p page.bytes mid new → AddsTo told g k p old mid → AddsTo told g k (p + 1) old new
 adds_more None g k p page old mid new gives add adds = tt
-adds_more (Some leg) g k p page old mid new gives add adds = record { each = λ c.
-    add.each c ∙ ap (λ b. b || page_has g p page.bytes c) (adds.each c)
-    ∙ one (get_or old c false) (slot_bit g leg k c) (page_has g p page.bytes c) (nat_lt c (chunks_of g)) (page_of c) p
-      (in_page leg g k p c page gives) (twice (nat_lt c (chunks_of g)) (page_of c == p) (chunk_bit page.bytes c)) }
+adds_more (Some leg) g k p page old mid new gives add adds = record {
+  each = λ c.
+      add.each c ∙ ap (λ b. b || page_has g p page.bytes c) (adds.each c)
+      ∙ one (get_or old c false) (slot_bit g leg k c) (page_has g p page.bytes c) (nat_lt c (chunks_of g)) (page_of c) p
+      (in_page leg g k p c page gives) (twice (nat_lt c (chunks_of g)) (page_of c == p) (chunk_bit page.bytes c));
+}
 
 -- what a page's reading says of its fault
 pub fault_told : {T E : Type 0} (r : Result T E) (f : Option E) (b : Bool) → result_err r ≡ f → is_err r ≡ b → is_some f ≡ b

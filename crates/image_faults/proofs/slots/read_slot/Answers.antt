@@ -1,5 +1,6 @@
 use Rattle.std.proofs.Common.{sym, ◌∙◌, subst, arith}
 use Rattle.leg_store.specs.Leg.{Gives}
+use Rattle.mdc_types.specs.Geometry.{page_sector}
 use Rattle.slot_pages.specs.Faults.{slot_fault}
 use Rattle.slot_pages.specs.Slot.{AddsPage}
 use Rattle.image_faults.proofs.SlotLaws.{judges_more, judges_wrong, judges_all, adds_more, fault_told, ok_has}
@@ -8,17 +9,15 @@ use Rattle.image_faults.proofs.slots.read_slot.Goals as goal
 pub returns-then-is_err-clause-judged : goal.returns-then-is_err-clause-judged
 returns-then-is_err-clause-judged g c =
     let page = c.in_ok-page.page in
-    let gives = subst (λ at. Gives (g.L.LegDev.contents c.args.leg.now) at page) c.page_sector.ensures.value
-        (subst (λ t. Gives t c.page_sector.result page) c.loop-p.invariant.contents c.in_ok-page.ensures.value) in
+    let gives = subst (λ t. Gives t (page_sector c.args.g.now c.args.k c.loop-p.p) page) c.loop-p.invariant.contents c.in_ok-page.ensures.value in
     judges_wrong (g.L.LegDev.contents c.args.leg.now) c.args.g.now c.args.uuid.now c.args.k c.loop-p.p page gives
-      (fault_told c.read_page.result (slot_fault c.args.g.now c.args.uuid.now c.loop-p.p page.bytes) _ c.read_page.ensures.fault (sym c.is_err.ensures.value ∙ c.if-is_err.true))
-      (omega arith) c.loop-p.invariant.judged
+    (fault_told c.read_page.result (slot_fault c.args.g.now c.args.uuid.now c.loop-p.p page.bytes) _ c.read_page.ensures.fault (sym c.is_err.ensures.value ∙ c.if-is_err.true))
+    (omega arith) c.loop-p.invariant.judged
 
 pub loop-p-preserved : goal.loop-p-preserved
 loop-p-preserved g c =
     let page = c.in_ok-page.page in
-    let gives = subst (λ at. Gives (g.L.LegDev.contents c.args.leg.now) at page) c.page_sector.ensures.value
-        (subst (λ t. Gives t c.page_sector.result page) c.loop-p.invariant.contents c.in_ok-page.ensures.value) in
+    let gives = subst (λ t. Gives t (page_sector c.args.g.now c.args.k c.loop-p.p) page) c.loop-p.invariant.contents c.in_ok-page.ensures.value in
     let sound = sym c.is_err.ensures.value ∙ c.if-is_err.false in
     let added = ok_has c.read_page.result (AddsPage c.args.g.now c.loop-p.p page.bytes c.loop-p.set c.read_page.new.into) sound c.read_page.ensures.added in
     record {
