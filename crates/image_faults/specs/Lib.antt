@@ -1,3 +1,4 @@
 pub mod Sizes
 pub mod Slots
 pub mod Compare
+pub mod Legs

@@ -3,6 +3,7 @@
 
 mod comparing;
 mod faults;
+mod legs;
 mod sizes;
 mod slots;
 #[cfg(test)]
@@ -10,5 +11,6 @@ mod tests;
 
 pub use comparing::compare;
 pub use faults::{ImageError, ImageFault};
+pub use legs::{LegEnd, LegImage, read_leg};
 pub use sizes::{chunk_in, length_fault, size_fault, sizes_of};
 pub use slots::read_slot;
