@@ -1,8 +1,7 @@
 -- A leg's slots, one after another, and its faults.
-use Rattle.std.proofs.Common.{◌≡◌, ℕ, ◌+◌, ◌-◌, ◌<◌, ◌≤◌, Bool, true, false, not, ◌||◌, ◌&&◌, nat_lt, List, [], ◌∷◌, ◌++◌, length, get_or, replicate, Option, Some, None, Result, Ok, Err, refl, ap, sym, ◌∙◌, arith, inl, inr, subst}
+use Rattle.std.proofs.Common.{◌≡◌, ℕ, ◌+◌, ◌-◌, ◌<◌, Bool, false, List, [], ◌∷◌, ◌++◌, length, get_or, replicate, Option, Some, None, Ok, Err, refl, ap, sym, ◌∙◌, arith, inl, inr, subst}
 use Rattle.std.specs.Option.{option_map}
 use Rattle.std.proofs.lemmas.Bool.{cases_lt}
-use Rattle.std.proofs.lemmas.Bool.Decides.{nat_tests}
 use Rattle.std.proofs.lemmas.List.{get_or-replicate, get_or_past, length-replicate, get_or_append_left, get_or_push, length_push}
 use Rattle.dlm_modes.specs.First.{first_such}
 use Rattle.dlm_modes.proofs.FirstLaws.{first_such_more, first_such_found, first_such_end}
@@ -16,10 +15,10 @@ use Rattle.mdc_types.specs.declared.chunks.ChunkSet.{ChunkSet}
 use Rattle.md_superblock.specs.Faults.{fault_of}
 use Rattle.md_superblock.specs.Superblock.{super_of}
 use Rattle.md_superblock.specs.declared.superblock.Super.{Super}
-use Rattle.mdc_types.specs.Geometry.{Sizes, nodes_of, slot_pages, page_of, chunks_of, most_chunks}
+use Rattle.mdc_types.specs.Geometry.{Sizes, nodes_of}
 use Rattle.mdc_types.specs.declared.numbers.Sector.{Sector}
-use Rattle.image_faults.specs.Slots.{slot_is_wrong, slot_bit, JudgesSlot, AddsSlot, AddsPages}
-use Rattle.image_faults.specs.Legs.{ReadsSlot, ReadsSlots, ReadsLeg, HaveBits, first_wrong_slot, slots_fault, leg_fault, super_bytes, first_page, own_chunk}
+use Rattle.image_faults.specs.Slots.{slot_is_wrong, slot_bit}
+use Rattle.image_faults.specs.Legs.{ReadsSlot, ReadsSlots, ReadsLeg, first_wrong_slot, slots_fault, leg_fault, super_bytes, first_page, own_chunk}
 use Rattle.image_faults.specs.Sizes.{length_fault, sizes_of}
 use Rattle.image_faults.specs.declared.faults.ImageFault.{ImageFault}
 use Rattle.image_faults.specs.declared.faults.ImageFault.TheVariants.{Slot, Super as FaultOfSuper}

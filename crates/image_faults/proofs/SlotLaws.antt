@@ -1,6 +1,5 @@
 -- Slots, page by page.
-use Rattle.std.proofs.Common.{◌≡◌, ℕ, ◌+◌, ◌-◌, ◌<◌, ◌≤◌, ◌==◌, nat_lt, Bool, true, false, not, ◌&&◌, ◌||◌, List, length, get_or, Option, Some, None, is_some, Result, Ok, Err, refl, ap, sym, ◌∙◌, arith, inl, inr}
-use Rattle.std.proofs.lemmas.Bool.{cases_Bool}
+use Rattle.std.proofs.Common.{◌≡◌, ℕ, ◌+◌, ◌-◌, ◌<◌, ◌≤◌, ◌==◌, nat_lt, Bool, true, false, not, ◌&&◌, ◌||◌, List, get_or, Option, Some, None, is_some, Result, Ok, Err, ap, sym, ◌∙◌, arith}
 use Rattle.std.proofs.lemmas.Bool.Decides.{nat_tests}
 use Rattle.std.proofs.lemmas.Option.{get_or_from_slice_get}
 use Rattle.std.specs.Prelude.{is_err, OnOk}
@@ -13,7 +12,7 @@ use Rattle.mdc_types.specs.declared.numbers.Sector.{Sector}
 use Rattle.leg_store.specs.Leg.{Gives}
 use Rattle.slot_pages.specs.Faults.{slot_fault}
 use Rattle.slot_pages.specs.Slot.{page_has, chunk_bit, AddsPage}
-use Rattle.image_faults.specs.Slots.{page_bytes, page_is_wrong, slot_is_wrong, slot_bit, JudgesSlot, AddsPages, AddsTo}
+use Rattle.image_faults.specs.Slots.{page_bytes, page_is_wrong, slot_bit, JudgesSlot, AddsTo}
 
 -- so far no page below p was wrong
 abbrev pub JudgesTo : Option (List Sector) → Sizes → List ℕ → ℕ → ℕ → Type 0

@@ -1,6 +1,6 @@
 -- What is wrong with the slots of a leg, and the bits that stand in them.
-use Rattle.std.specs.Prelude.{◌≡◌, ℕ, nat_lt, Bool, not, ◌&&◌, ◌||◌, false, List, length, get_or}
-use Rattle.std.specs.Prelude.{Option, Some, None, is_some, is_none}
+use Rattle.std.specs.Prelude.{◌≡◌, ℕ, nat_lt, Bool, not, ◌&&◌, ◌||◌, false, List, get_or}
+use Rattle.std.specs.Prelude.{Option, Some, None, is_some}
 use Rattle.dlm_modes.specs.First.{first_such}
 use Rattle.mdc_types.specs.Geometry.{Sizes, slot_pages, page_of, page_sector}
 use Rattle.mdc_types.specs.Sectors.{zero_sector}

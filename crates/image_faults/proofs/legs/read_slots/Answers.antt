@@ -1,4 +1,4 @@
-use Rattle.std.proofs.Common.{sym, ◌∙◌, ap, subst, arith, ◌+◌}
+use Rattle.std.proofs.Common.{sym, ◌∙◌, subst, arith, ◌+◌}
 use Rattle.std.specs.Prelude.{Ok, Err}
 use Rattle.image_faults.specs.Legs.{ReadsSlot}
 use Rattle.image_faults.proofs.LegLaws.{ReadsTo, reads_more, reads_wrong, reads_all}
