@@ -1,8 +1,8 @@
 -- New images are without a fault, and their opening is sound.
-use Rattle.std.proofs.Common.{◌≡◌, ◌≢◌, ℕ, zero, suc, ◌+◌, ◌-◌, ◌*◌, ◌/◌, ◌%◌, ◌^◌, ◌<◌, ◌≤◌, ◌&&◌, ◌==◌, nat_lt, nat_le, if◌then◌else◌, Bool, true, false, not, List, [], ◌∷◌, ◌++◌, length, get_or, replicate, map, refl, ap, sym, ◌∙◌, subst, arith, inl, inr, Option, Some, None, is_some}
+use Rattle.std.proofs.Common.{◌≡◌, ℕ, zero, suc, ◌+◌, ◌-◌, ◌*◌, ◌/◌, ◌%◌, ◌^◌, ◌<◌, ◌≤◌, ◌&&◌, ◌==◌, nat_lt, nat_le, if◌then◌else◌, Bool, true, false, List, [], ◌∷◌, length, get_or, map, refl, ap, sym, ◌∙◌, subst, arith, inl, inr, Some, is_some}
 use Rattle.std.specs.Prelude.{unwrap_or}
 use Rattle.std.proofs.Math.Path.{fun_ext}
-use Rattle.std.proofs.lemmas.Bool.{cases_lt, cases_Bool}
+use Rattle.std.proofs.lemmas.Bool.{cases_lt}
 use Rattle.std.proofs.lemmas.Bool.Decides.{nat_tests}
 use Rattle.std.proofs.lemmas.List.{get_or-replicate}
 use Rattle.std.proofs.lemmas.List.FromFn.{get_or-map-range_with_len, length-map-range_with_len}
@@ -10,31 +10,29 @@ use Rattle.std.proofs.lemmas.Slice.Eq.{bytes_eq-Decides}
 use Rattle.std.specs.List.{range_with_len}
 use Rattle.std.specs.Str.{bytes_eq}
 use Rattle.dlm_modes.specs.First.{first_such}
-use Rattle.dlm_modes.proofs.FirstLaws.{first_such_some}
 use Rattle.leg_failure.proofs.SetLaws.{has_bit-zero}
 use Rattle.mdc_types.specs.Bits.{has_bit}
-use Rattle.mdc_types.specs.Geometry.{Sizes, IsGeometry, length_of, data_offset, nodes_of, slot_pages, chunks_of, page_of, page_sector, most_chunks}
+use Rattle.mdc_types.specs.Geometry.{Sizes, length_of, data_offset, nodes_of, slot_pages, chunks_of, page_of, page_sector, most_chunks}
 use Rattle.mdc_types.specs.Sectors.{zero_sector}
-use Rattle.mdc_types.specs.Roles.{role_of, is_working, eight}
+use Rattle.mdc_types.specs.Roles.{role_of, is_working}
 use Rattle.mdc_types.specs.declared.numbers.Sector.{Sector}
-use Rattle.mdc_types.specs.declared.roles.Role.{Role}
-use Rattle.mdc_types.specs.declared.roles.Role.TheVariants.{Working, Faulty, Spare}
-use Rattle.md_superblock.specs.Arrays.{Array, AreBytes, super_for, spelled, says_in, IsWritable}
+use Rattle.mdc_types.specs.declared.roles.Role.TheVariants.{Working, Faulty}
+use Rattle.md_superblock.specs.Arrays.{Array, super_for, spelled, says_in, IsWritable}
 use Rattle.md_superblock.proofs.ArrayLaws.{says_again, spelled_is_written}
 use Rattle.slot_pages.specs.Slot.{spelled_page, page_has, byte_of_page}
 use Rattle.slot_pages.proofs.Spelled.{has_the_set}
 use Rattle.leg_shelf.specs.Shelves.{Files}
-use Rattle.leg_shelf.specs.Images.{sectors_in, bytes_of}
+use Rattle.leg_shelf.specs.Images.{sectors_in}
 use Rattle.cluster_model.specs.State.{Legs}
-use Rattle.cluster_model.specs.Opening.{Origin, IsOrigin, array_of, says_of, opening_set, core_at}
-use Rattle.cluster_model.specs.Contents.{HasImages, IsImages, SoundOpening, header_sector, slot_sector, works_at, some_mark, is_marked_slot, values_on, with_new}
+use Rattle.cluster_model.specs.Opening.{says_of, opening_set}
+use Rattle.cluster_model.specs.Contents.{HasImages, IsImages, header_sector, slot_sector, works_at, some_mark, is_marked_slot, values_on, with_new}
 use Rattle.cluster_model.specs.Stored.{super_on, bit_on, data_on}
 use Rattle.disk_image.specs.Files.{leg_name, legs_in}
-use Rattle.disk_image.specs.Created.{created_at, image_of, with_images, new_role}
+use Rattle.disk_image.specs.Created.{created_at, image_of}
 use Rattle.disk_image.specs.Laws.{IsArray, HaveNewImages, NewImagesAreSound}
 use Rattle.disk_image.proofs.Sectors.{AreWhole, sectors_read}
 use Rattle.disk_image.proofs.Placed.{placed, placed_is, placed_at}
-use Rattle.disk_image.proofs.Origins.{created_origin, is_super, new_roles, role_below, role_at_created}
+use Rattle.disk_image.proofs.Origins.{created_origin, is_super, role_below, role_at_created}
 
 -- What the files hold, sector by sector.
 

@@ -1,5 +1,5 @@
 -- The opening of new images is in range.
-use Rattle.std.proofs.Common.{◌≡◌, ℕ, ◌<◌, ◌≤◌, ◌^◌, ◌&&◌, Bool, true, false, not, refl, arith, inl, inr, ◌∙◌, ap, sym, length, if◌then◌else◌, nat_lt}
+use Rattle.std.proofs.Common.{◌≡◌, ℕ, ◌<◌, ◌≤◌, ◌^◌, ◌&&◌, Bool, true, false, not, arith, inl, inr, ◌∙◌, ap, sym, length, if◌then◌else◌, nat_lt}
 use Rattle.std.proofs.Math.Nat.{one-le-pow}
 use Rattle.std.proofs.Math.Path.{fun_ext}
 use Rattle.std.proofs.lemmas.Bool.{cases_lt}
@@ -10,7 +10,6 @@ use Rattle.mdc_types.specs.Geometry.{IsGeometry, nodes_of}
 use Rattle.mdc_types.specs.Names.{is_name}
 use Rattle.mdc_types.specs.Roles.{role_of, some_works, eight}
 use Rattle.mdc_types.specs.declared.roles.Roles.{Roles}
-use Rattle.mdc_types.specs.declared.roles.Role.{Role}
 use Rattle.mdc_types.specs.declared.roles.Role.TheVariants.{Spare, Working}
 use Rattle.mdc_types.proofs.RolesLaws.{role_of-eight, role_of-eight_past, some_works-leg}
 use Rattle.md_superblock.specs.Superblock.{IsSuper}

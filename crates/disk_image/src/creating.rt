@@ -7,9 +7,9 @@ ghost use Rattle.cluster_model.specs.Opening.{IsOrigin};
 ghost use Rattle.disk_image.specs.Files.{leg_name, name_field};
 ghost use Rattle.disk_image.specs.Created.{created_at, image_of, with_images, LeavesImages, is_shelf_fault};
 
-use image_faults::ImageError;
 use crate::image::image_of;
 use crate::names::{leg_name, name_field};
+use image_faults::ImageError;
 use leg_shelf::{Shelf, ShelfEnd};
 use md_superblock::Identity;
 use mdc_types::{Geometry, LegId};

@@ -1,4 +1,4 @@
-use Rattle.std.proofs.Common.{◌≡◌, ◌++◌, ap, ◌∙◌, map}
+use Rattle.std.proofs.Common.{◌++◌, ap, ◌∙◌, map}
 use Rattle.std.specs.List.{range_with_len}
 use Rattle.md_superblock.specs.Arrays.{array_of}
 use Rattle.leg_shelf.specs.Images.{bytes_of}

@@ -1,7 +1,6 @@
-use Rattle.std.proofs.Common.{◌≡◌, ap, subst, sym, ◌∙◌}
-use Rattle.md_superblock.specs.Arrays.{array_of, super_for, spelled, said, Says}
+use Rattle.std.proofs.Common.{ap, subst, sym, ◌∙◌}
+use Rattle.md_superblock.specs.Arrays.{array_of, super_for, spelled}
 use Rattle.md_superblock.specs.Superblock.{IsSuper}
-use Rattle.cluster_model.specs.Opening.{says_of}
 use Rattle.disk_image.specs.Created.{created_at, new_role}
 use Rattle.mdc_types.specs.Roles.{eight}
 use Rattle.disk_image.proofs.Origins.{is_super, new_says}

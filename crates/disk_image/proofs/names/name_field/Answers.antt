@@ -1,4 +1,4 @@
-use Rattle.std.proofs.Common.{◌≡◌, ℕ, ◌++◌, ap, ◌∙◌, replicate, length, drop}
+use Rattle.std.proofs.Common.{ℕ, ◌++◌, ap, ◌∙◌, replicate, length, drop}
 use Rattle.std.proofs.lemmas.List.{drop-replicate}
 use Rattle.disk_image.specs.Files.{name_field}
 use Rattle.disk_image.proofs.names.name_field.Goals as goal
