@@ -1,0 +1,4 @@
+pub mod Sectors
+pub mod Origins
+pub mod Placed
+pub mod NewImages

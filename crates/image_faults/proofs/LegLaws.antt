@@ -1,0 +1,150 @@
+-- A leg's slots, one after another, and its faults.
+use Rattle.std.proofs.Common.{◌≡◌, ℕ, ◌+◌, ◌-◌, ◌<◌, Bool, false, List, [], ◌∷◌, ◌++◌, length, get_or, replicate, Option, Some, None, Ok, Err, refl, ap, sym, ◌∙◌, arith, inl, inr, subst}
+use Rattle.std.specs.Option.{option_map}
+use Rattle.std.proofs.lemmas.Bool.{cases_lt}
+use Rattle.std.proofs.lemmas.List.{get_or-replicate, get_or_past, length-replicate, get_or_append_left, get_or_push, length_push}
+use Rattle.dlm_modes.specs.First.{first_such}
+use Rattle.dlm_modes.proofs.FirstLaws.{first_such_more, first_such_found, first_such_end}
+use Rattle.dlm_modes.specs.Guards.{first_of}
+use Rattle.std.proofs.Common.{Vec, Global}
+use Rattle.std.proofs.lemmas.Option.{get_or_from_slice_get}
+use Rattle.leg_store.specs.Leg.{Gives}
+use Rattle.mdc_types.specs.Sectors.{zero_sector}
+use Rattle.mdc_types.specs.declared.geometry.GeomError.{GeomError}
+use Rattle.mdc_types.specs.declared.chunks.ChunkSet.{ChunkSet}
+use Rattle.md_superblock.specs.Faults.{fault_of}
+use Rattle.md_superblock.specs.Superblock.{super_of}
+use Rattle.md_superblock.specs.declared.superblock.Super.{Super}
+use Rattle.mdc_types.specs.Geometry.{Sizes, nodes_of}
+use Rattle.mdc_types.specs.declared.numbers.Sector.{Sector}
+use Rattle.image_faults.specs.Slots.{slot_is_wrong, slot_bit}
+use Rattle.image_faults.specs.Legs.{ReadsSlot, ReadsSlots, ReadsLeg, first_wrong_slot, slots_fault, leg_fault, super_bytes, first_page, own_chunk}
+use Rattle.image_faults.specs.Sizes.{length_fault, sizes_of}
+use Rattle.image_faults.specs.declared.faults.ImageFault.{ImageFault}
+use Rattle.image_faults.specs.declared.faults.ImageFault.TheVariants.{Slot, Super as FaultOfSuper}
+use Rattle.image_faults.specs.declared.legs.LegEnd.{LegEnd}
+use Rattle.image_faults.specs.declared.legs.LegEnd.TheVariants.{Fault, Failed, Memory}
+
+-- so far no slot below k was wrong, and these are their bits
+pub record SlotsTo (leg : List Sector) (g : Sizes) (uuid : List ℕ) (k : ℕ) (slots : List (List Bool)) : Type 0 where
+  pub many : length slots ≡ k
+  pub judged : first_wrong_slot g uuid leg ≡ first_such (slot_is_wrong g uuid leg) k (nodes_of g - k)
+  pub bits : (j c : ℕ) → j < k → get_or (get_or slots j []) c false ≡ slot_bit g leg j c
+
+abbrev pub ReadsTo : Option (List Sector) → Sizes → List ℕ → ℕ → List (List Bool) → Type 0
+ReadsTo None g uuid k slots = length slots ≡ k
+ReadsTo (Some leg) g uuid k slots = SlotsTo leg g uuid k slots
+
+pub reads_none : (told : Option (List Sector)) (g : Sizes) (uuid : List ℕ) → ReadsTo told g uuid 0 []
+reads_none None g uuid = refl
+reads_none (Some leg) g uuid = record {
+  many = refl;
+  judged = let e : nodes_of g ≡ nodes_of g - 0 = omega arith in ap (first_such (slot_is_wrong g uuid leg) 0) e;
+  bits = λ j c lt. absurd (omega (arith, lt));
+}
+
+pub reads_more : (told : Option (List Sector)) (g : Sizes) (uuid : List ℕ) (k : ℕ) (slots : List (List Bool)) (set : List Bool)
+    → k < nodes_of g → ReadsSlot told g uuid k (Ok set) → ReadsTo told g uuid k slots → ReadsTo told g uuid (k + 1) (slots ++ set ∷ [])
+reads_more None g uuid k slots set lt read so_far = length_push slots set ∙ ap (λ n. n + 1) so_far
+reads_more (Some leg) g uuid k slots set lt read so_far = record {
+  many = length_push slots set ∙ ap (λ n. n + 1) so_far.many;
+  judged = so_far.judged ∙ first_such_more (slot_is_wrong g uuid leg) k (nodes_of g) lt read.0;
+  bits = λ j c below. elim (cases_lt j k) [
+    | inl under ↦ ap (λ s. get_or s c false) (get_or_append_left slots (set ∷ []) [] j (subst (λ n. j < n) (sym so_far.many) under)) ∙ so_far.bits j c under
+    | inr past ↦ let last : k ≡ j = omega arith in
+        ap (λ s. get_or s c false) (get_or_push slots set [] j (so_far.many ∙ last)) ∙ read.1 c ∙ ap (λ n. slot_bit g leg n c) last
+  ];
+}
+
+pub reads_wrong : (told : Option (List Sector)) (g : Sizes) (uuid : List ℕ) (k : ℕ) (slots : List (List Bool)) (e : LegEnd)
+    → k < nodes_of g → ReadsSlot told g uuid k (Err e) → ReadsTo told g uuid k slots → ReadsSlots told g uuid (Err e)
+reads_wrong None g uuid k slots e lt read so_far = tt
+reads_wrong (Some leg) g uuid k slots (Fault f) lt read so_far =
+    ap (option_map Slot) (so_far.judged ∙ first_such_found (slot_is_wrong g uuid leg) k (nodes_of g) lt read.0) ∙ ap Some (sym read.1)
+reads_wrong (Some leg) g uuid k slots Failed lt read so_far = tt
+reads_wrong (Some leg) g uuid k slots (Memory e) lt read so_far = tt
+
+pub reads_all : (told : Option (List Sector)) (g : Sizes) (uuid : List ℕ) (k : ℕ) (slots : List (List Bool))
+    → nodes_of g ≡ k → ReadsTo told g uuid k slots → ReadsSlots told g uuid (Ok slots)
+reads_all None g uuid k slots is so_far = tt
+reads_all (Some leg) g uuid k slots is so_far = (
+  so_far.judged ∙ first_such_end (slot_is_wrong g uuid leg) k (nodes_of g) (omega (arith, is)),
+  record { each = λ j c lt. so_far.bits j c (subst (λ n. j < n) is lt) },
+)
+
+-- What is known of a leg once its superblock and its first page were read.
+
+pub record IsKnown (leg : List Sector) (chunk : Option ℕ) (size : ℕ) (s : Super) (n : ℕ) : Type 0 where
+  pub sound : fault_of (super_bytes leg) ≡ None
+  pub superblock : s ≡ super_of (super_bytes leg)
+  pub length : length_fault s size ≡ None
+  pub chunk_is : n ≡ own_chunk chunk (first_page leg)
+
+abbrev pub Known : Option (List Sector) → Option ℕ → ℕ → Super → ℕ → Type 0
+Known None chunk size s n = Unit {0}
+Known (Some leg) chunk size s n = IsKnown leg chunk size s n
+
+pub known : (told : Option (List Sector)) (chunk : Option ℕ) (size : ℕ) (s : Super) (n : ℕ) (block page : Sector)
+    → Gives told 8 block → Gives told 16 page → fault_of block.bytes ≡ None → s ≡ super_of block.bytes
+    → length_fault s size ≡ None → n ≡ own_chunk chunk page.bytes → Known told chunk size s n
+known None chunk size s n block page gives there sound is fits has = tt
+known (Some leg) chunk size s n block page gives there sound is fits has =
+    let e : get_or leg 8 zero_sector ≡ block = get_or_from_slice_get leg 8 block zero_sector gives in
+    let f : get_or leg 16 zero_sector ≡ page = get_or_from_slice_get leg 16 page zero_sector there in
+    record {
+      sound = ap (λ v. fault_of v.bytes) e ∙ sound;
+      superblock = is ∙ ap (λ v. super_of v.bytes) (sym e);
+      length = fits;
+      chunk_is = has ∙ ap (λ v. own_chunk chunk v.bytes) (sym f);
+    }
+
+third : (a b c : Option ImageFault) → a ≡ None → b ≡ None → first_of (a ∷ b ∷ c ∷ []) ≡ c
+third a b None e f = rw (e, f) refl
+third a b (Some x) e f = rw (e, f) refl
+
+-- the fault is that of the slots
+at_slots : (leg : List Sector) (chunk : Option ℕ) (size : ℕ) (s : Super) (n : ℕ) → IsKnown leg chunk size s n
+    → leg_fault chunk size leg ≡ slots_fault (sizes_of s n) s.uuid leg
+at_slots leg chunk size s n is =
+    third (option_map FaultOfSuper (fault_of (super_bytes leg))) (length_fault (super_of (super_bytes leg)) size)
+    (slots_fault (sizes_of (super_of (super_bytes leg)) (own_chunk chunk (first_page leg))) (super_of (super_bytes leg)).uuid leg)
+    (ap (option_map FaultOfSuper) is.sound)
+    (ap (λ t. length_fault t size) (sym is.superblock) ∙ is.length)
+    ∙ ap (λ t. slots_fault (sizes_of t (own_chunk chunk (first_page leg))) t.uuid leg) (sym is.superblock)
+    ∙ ap (λ k. slots_fault (sizes_of s k) s.uuid leg) (sym is.chunk_is)
+
+pub read_refused : (told : Option (List Sector)) (chunk : Option ℕ) (size : ℕ) (s : Super) (n : ℕ) (x : GeomError)
+    → Known told chunk size s n → Err x ≡ sizes_of s n → ReadsLeg told chunk size (Err (Fault (Slot 0)))
+read_refused None chunk size s n x is refused = tt
+read_refused (Some leg) chunk size s n x is refused = at_slots leg chunk size s n is ∙ ap (λ r. slots_fault r s.uuid leg) (sym refused)
+
+pub read_ended : (told : Option (List Sector)) (chunk : Option ℕ) (size : ℕ) (s : Super) (n : ℕ) (g : Sizes) (e : LegEnd)
+    → Known told chunk size s n → Ok g ≡ sizes_of s n → ReadsSlots told g s.uuid (Err e) → ReadsLeg told chunk size (Err e)
+read_ended None chunk size s n g e is sizes ended = tt
+read_ended (Some leg) chunk size s n g (Fault f) is sizes ended =
+    at_slots leg chunk size s n is ∙ ap (λ r. slots_fault r s.uuid leg) (sym sizes) ∙ ended
+read_ended (Some leg) chunk size s n g Failed is sizes ended = tt
+read_ended (Some leg) chunk size s n g (Memory m) is sizes ended = tt
+
+pub read_done : (told : Option (List Sector)) (chunk : Option ℕ) (size : ℕ) (s : Super) (n : ℕ) (g : Sizes) (slots : Vec ChunkSet Global)
+    → Known told chunk size s n → Ok g ≡ sizes_of s n → ReadsSlots told g s.uuid (Ok slots.items)
+    → ReadsLeg told chunk size (Ok (record { superblock = s; geometry = g; slots = slots }))
+read_done None chunk size s n g slots is sizes done = tt
+read_done (Some leg) chunk size s n g slots is sizes done = record {
+  sound = at_slots leg chunk size s n is ∙ ap (λ r. slots_fault r s.uuid leg) (sym sizes) ∙ ap (option_map Slot) done.0;
+  superblock = is.superblock;
+  sizes = sizes ∙ ap (sizes_of s) is.chunk_is;
+  bits = done.1;
+}
+
+-- the chunks that were added to none are those of the slot
+off : (n : ℕ) (c : ℕ) → get_or (replicate n false) c false ≡ false
+off n c = elim (cases_lt c n) [
+  | inl below ↦ get_or-replicate n c false false below
+  | inr past ↦ get_or_past (replicate n false) c false (omega (arith, length-replicate n false, past))
+]
+
+-- what isn't there is None
+pub not_there : {X : Type 0} (o : Option X) → ((x : X) → o ≡ Some x → ⊥) → o ≡ None
+not_there None absent = refl
+not_there (Some x) absent = absurd (absent x refl)

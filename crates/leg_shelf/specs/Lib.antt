@@ -1,0 +1,4 @@
+pub mod Shelves
+pub mod Images
+pub mod Memory
+pub mod Names
