@@ -1,0 +1,3 @@
+mod HelpTests
+mod WantTests
+mod StormTests

@@ -1,0 +1,4 @@
+pub mod Wants
+pub mod Lines
+pub mod Helpers
+pub mod Storms
