@@ -27,7 +27,7 @@ is_settled w n s = has_pass (w.copy n) && is_behind w.geometry (reached_in (w.co
 
 -- the leg has no value at the sector that a read may give
 abbrev pub is_stale : Part → Ghost → ℕ → ℕ → Bool
-is_stale w g l s = not (is_among (w.data l s) (g.values s))
+is_stale w g l s = not (is_among (w.stored l s) (g.values s))
 
 abbrev pub BufferPlace : Part → Type 0
 BufferPlace w = (n : ℕ) (p : Passing) (b : Buffer) → (w.copy n).pass ≡ Some p → p.buffer ≡ Some b
@@ -44,11 +44,11 @@ SettledDecided w g = (n s : ℕ) → is_settled w n s ≡ true → undecided g s
 
 abbrev pub BufferDone : Part → Type 0
 BufferDone w = (n l : ℕ) (p : Passing) (b : Buffer) → (w.copy n).pass ≡ Some p → p.buffer ≡ Some b
-    → has_bit b.done l ≡ true → w.data l b.sector ≡ b.value
+    → has_bit b.done l ≡ true → w.stored l b.sector ≡ b.value
 
 abbrev pub DoneHolds : Part → Type 0
 DoneHolds w = (n k l : ℕ) (x : LiveWrite) → write_in k (w.writes n) ≡ Some x → is_done x l ≡ true
-    → w.data l x.sector ≡ x.value
+    → w.stored l x.sector ≡ x.value
 
 abbrev pub DoneStarted : Part → Type 0
 DoneStarted w = (n k l : ℕ) → done_there (write_of w n k) l ≡ true

@@ -57,7 +57,7 @@ pub record Part : Type 0 where
   -- on the legs: the superblock by leg, the bit by slot, chunk and leg, the data by leg and sector
   pub super : ℕ → Option Says
   pub bit : ℕ → ℕ → ℕ → Bool
-  pub data : ℕ → ℕ → Sector
+  pub stored : ℕ → ℕ → Sector
   -- what was agreed on, and the other ghosts of roles
   pub ghost : roles.Ghost
 
@@ -70,7 +70,7 @@ abbrev pub bits_on : Sizes → Legs → ℕ → ℕ → ℕ → Bool
 bits_on g legs k c l = nat_lt k (nodes_of g) && bit_on g legs k c l
 
 abbrev pub part_of : Core → (ℕ → Option Says) → (ℕ → ℕ → ℕ → Bool) → (ℕ → ℕ → Sector) → roles.Ghost → Part
-part_of core super bit data ghost = record {
+part_of core super bit stored ghost = record {
   geometry = core.array.sizes;
   state = core.state;
   view = core.view;
@@ -93,7 +93,7 @@ part_of core super bit data ghost = record {
   completed = core.members.completed;
   super = super;
   bit = bit;
-  data = data;
+  stored = stored;
   ghost = ghost;
 }
 
@@ -228,7 +228,7 @@ with_page_if left bit k p l set j c i =
     if left && (j == k) && (page_of c == p) && (i == l) then set c else bit j c i
 
 abbrev pub with_data : (ℕ → ℕ → Sector) → ℕ → ℕ → Sector → ℕ → ℕ → Sector
-with_data data l s v i t = if (i == l) && (t == s) then v else data i t
+with_data stored l s v i t = if (i == l) && (t == s) then v else stored i t
 
 abbrev pub with_data_if : Bool → (ℕ → ℕ → Sector) → ℕ → ℕ → Sector → ℕ → ℕ → Sector
-with_data_if left data l s v i t = if left && (i == l) && (t == s) then v else data i t
+with_data_if left stored l s v i t = if left && (i == l) && (t == s) then v else stored i t

@@ -39,7 +39,7 @@ use Rattle.cluster_model.specs.Bits.{is_degraded}
 use Rattle.cluster_model.specs.Finishing.{adding_after}
 use Rattle.cluster_model.specs.Gathering.{is_again, is_again_of}
 use Rattle.cluster_model.specs.Joining.{says_of}
-use Rattle.cluster_model.specs.Phases.{is_in, is_up, is_joining, is_metadata, is_unclean, offers}
+use Rattle.cluster_model.specs.Phases.{is_in, is_up, is_joining, is_metadata, is_unclean, offers as offers_wish}
 use Rattle.cluster_model.specs.Receiving.{told_state}
 use Rattle.cluster_model.specs.Superblocks.{says_of_offer, written_on}
 use Rattle.cluster_model.specs.Wishes.{is_window}
@@ -177,7 +177,7 @@ pub record Joining (w : Part) (n : ℕ) : Type 0 where
 
 pub record Coming (w : Part) (n k : ℕ) (says : Says) (ranges : ℕ → Option Range) : Type 0 where
   pub joining : w.state n ≡ states.Joining
-  pub says : says_of (w.tried n k) ≡ Some says
+  pub loaded : says_of (w.tried n k) ≡ Some says
   pub stands : w.super k ≡ Some says
   pub new : w.completed ≤ says.events
   pub none : (m : ℕ) → w.offer m ≡ None
@@ -187,7 +187,7 @@ pub record Coming (w : Part) (n k : ℕ) (says : Says) (ranges : ℕ → Option 
   pub alone : (m : ℕ) → is_in (w.state m) ≡ true → is_up (w.state m) ≡ true
   pub copy : w.copy n ≡ no_copy
   -- the ranges of the members
-  pub ranges : (m : ℕ) → ranges m ≡ (if is_up (w.state m) then w.told m else None)
+  pub members : (m : ℕ) → ranges m ≡ (if is_up (w.state m) then w.told m else None)
 
 -- who goes in peace copies and recovers nothing and has no offer but to leave
 pub record Going (w : Part) (n : ℕ) : Type 0 where
@@ -224,7 +224,7 @@ pub record Dying (w : Part) (n : ℕ) (told : ℕ → Option Range) : Type 0 whe
   pub node : n < 16
   pub live : w.live n ≡ true
   -- the blocks of the locks that it held for writing are valid no more
-  pub told : (m : ℕ) → told m ≡ (if (m == n) || recovers (w.recovery n) m then None else w.told m)
+  pub blocks : (m : ℕ) → told m ≡ (if (m == n) || recovers (w.recovery n) m then None else w.told m)
 
 -- Requests.
 
@@ -236,7 +236,7 @@ pub record Asking (w : Part) (n s k : ℕ) (v : Sector) (new : List LiveWrite) :
   pub free : (m : ℕ) → m < 16 → suspends s (w.suspended n m) ≡ false
   pub alone : (m j : ℕ) (x : LiveWrite) → write_in j (w.writes m) ≡ Some x → (x.sector == s) ≡ false
   -- the node hasn't published that it leaves
-  pub stays : (has_published (w.sender n) && offers is_unclean (w.offer n)) ≡ false
+  pub stays : (has_published (w.sender n) && offers_wish is_unclean (w.offer n)) ≡ false
 
 -- a transfer of a write to a leg, tried
 pub record Trying (w : Part) (n k l : ℕ) (x : LiveWrite) : Type 0 where
@@ -317,7 +317,7 @@ pub record Fills (w : Part) (n s l : ℕ) (v : Sector) (p : Passing) (r : Range)
   pub next : next_in w.geometry p r ≡ Some s
   pub acked : Acked w n
   pub works : works (w.view n) l ≡ true
-  pub value : v ≡ w.data l s
+  pub value : v ≡ w.stored l s
 
 -- there is a buffer
 pub record Buffers (w : Part) (n : ℕ) (p : Passing) (b : Buffer) : Type 0 where
@@ -362,7 +362,7 @@ pub record Open (w : Part) (n : ℕ) (r : Recovering) : Type 0 where
   pub other : (r.slot == n) ≡ false
 
 pub record SlotReads (w : Part) (n p l : ℕ) (r : Recovering) (has : ℕ → Bool) : Type 0 where
-  pub open : Open w n r
+  pub opened : Open w n r
   pub page : p < pages_of w.geometry
   pub leg : l < w.geometry.legs
   pub works : works (w.view n) l ≡ true
@@ -371,7 +371,7 @@ pub record SlotReads (w : Part) (n p l : ℕ) (r : Recovering) (has : ℕ → Bo
 -- all pages were read on all legs that the node reads from, and what was found is marked on all
 -- targets
 pub record AllRead (w : Part) (n : ℕ) (r : Recovering) : Type 0 where
-  pub open : Open w n r
+  pub opened : Open w n r
   pub acked : Acked w n
   pub read : (p l : ℕ) → p < pages_of w.geometry → works (w.view n) l ≡ true → r.read p l ≡ true
 
@@ -591,13 +591,13 @@ pub data Way (w : Part) : Part → Type 0 where
   outs : (n k l : ℕ) (x : LiveWrite) → Trying w n k l x
       → Way w (record w {
         writes = with_at w.writes n (done_in k l (start_in k (w.writes n)));
-        data = with_data w.data l x.sector x.value;
+        stored = with_data w.stored l x.sector x.value;
       })
   -- the transfer failed: the leg may have the value
   misses : (n k l : ℕ) (x : LiveWrite) (left : Bool) → Trying w n k l x
       → Way w (record w {
         writes = with_at w.writes n (start_in k (w.writes n));
-        data = with_data_if left w.data l x.sector x.value;
+        stored = with_data_if left w.stored l x.sector x.value;
       })
   ends : (n k : ℕ) (x : LiveWrite) → Finishing w n k x
       → Way w (record w {
@@ -628,7 +628,7 @@ pub data Way (w : Part) : Part → Type 0 where
 
   -- Copying.
 
-  turns : (n : ℕ) → is_up (w.state n) ≡ true → (w.copy n).turn ≡ NotAsked → (has_published (w.sender n) && offers is_unclean (w.offer n)) ≡ false
+  turns : (n : ℕ) → is_up (w.state n) ≡ true → (w.copy n).turn ≡ NotAsked → (has_published (w.sender n) && offers_wish is_unclean (w.offer n)) ≡ false
       → Way w (record w { copy = with_at w.copy n (record (w.copy n) { turn = Asked }) })
   -- nobody else has it
   holds_turn : (n : ℕ) → is_up (w.state n) ≡ true → (w.copy n).turn ≡ Asked → ((m : ℕ) → (w.copy m).turn ≢ Held)
@@ -646,10 +646,10 @@ pub data Way (w : Part) : Part → Type 0 where
   copies : (n l : ℕ) (p : Passing) (b : Buffer) → Copies w n l p b
       → Way w (record w {
         copy = pass_with w n (λ q. copied q l);
-        data = with_data w.data l b.sector b.value;
+        stored = with_data w.stored l b.sector b.value;
       })
   misses_copy : (n l : ℕ) (p : Passing) (b : Buffer) (left : Bool) → Copies w n l p b
-      → Way w (record w { data = with_data_if left w.data l b.sector b.value })
+      → Way w (record w { stored = with_data_if left w.stored l b.sector b.value })
   settles : (n : ℕ) (p : Passing) (b : Buffer) → Settles w n p b
       → Way w (record w {
         copy = pass_with w n (λ q. settled_at w.geometry q b);
