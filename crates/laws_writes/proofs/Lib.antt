@@ -4,3 +4,4 @@ pub mod Windows
 pub mod Contents
 pub mod Pages
 pub mod Intent
+pub mod Settled
