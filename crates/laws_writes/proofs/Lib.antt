@@ -4,3 +4,6 @@ pub mod Windows
 pub mod Contents
 pub mod Pages
 pub mod Intent
+pub mod Roled
+pub mod Recoverers
+pub mod PageSteps
