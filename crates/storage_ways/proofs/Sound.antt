@@ -38,6 +38,7 @@ pub record Turns (w : Part) : Type 0 where
   pub slot : (n : ℕ) (r : Recovering) → w.recovery n ≡ Some r → w.pending r.slot ≡ true
   pub other : (n : ℕ) (r : Recovering) → w.recovery n ≡ Some r → r.slot ≢ n
   pub unclean : (n : ℕ) → offers is_unclean (w.offer n) ≡ true → (w.copy n).turn ≡ NotAsked
+  pub pass : (n : ℕ) → has_pass (w.copy n) ≡ true → (w.copy n).turn ≡ Held
 
 -- states, members and senders
 pub record Phases (w : Part) : Type 0 where
@@ -55,6 +56,7 @@ pub record Phases (w : Part) : Type 0 where
   pub gone : (n m : ℕ) → has_published (w.sender n) ≡ true → is_idle (w.receiver m).phase ≡ false → (w.receiver m).gone ≡ false
   pub sending : (n : ℕ) → has_published (w.sender n) ≡ true → is_idle (w.receiver n).phase ≡ true
   pub loaded : (n : ℕ) → is_loaded (w.state n) ≡ true → has_token (w.sender n) ≡ true
+  pub slots : (d : ℕ) → w.pending d ≡ true → d < 16
 
 -- chunks, sectors and ranges lie within the room
 pub record Within (w : Part) : Type 0 where
