@@ -4,6 +4,7 @@ pub mod Windows
 pub mod Contents
 pub mod Pages
 pub mod Intent
-pub mod Roled
 pub mod Recoverers
 pub mod PageSteps
+pub mod Places
+pub mod UndecidedSteps
