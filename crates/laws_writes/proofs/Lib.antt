@@ -8,3 +8,5 @@ pub mod Recoverers
 pub mod PageSteps
 pub mod Places
 pub mod UndecidedSteps
+pub mod Heirs
+pub mod KeeperSteps
