@@ -10,3 +10,5 @@ pub mod Places
 pub mod UndecidedSteps
 pub mod Heirs
 pub mod KeeperSteps
+pub mod Settling
+pub mod NeedSteps
