@@ -5,3 +5,11 @@ pub mod Contents
 pub mod Pages
 pub mod Intent
 pub mod Settled
+pub mod Recoverers
+pub mod PageSteps
+pub mod Places
+pub mod UndecidedSteps
+pub mod Heirs
+pub mod KeeperSteps
+pub mod Settling
+pub mod NeedSteps
