@@ -4,4 +4,5 @@ pub mod Known
 pub mod Points
 pub mod Values
 pub mod Lacks
+pub mod Found
 pub mod StaleSteps
