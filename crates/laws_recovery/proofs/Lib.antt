@@ -2,7 +2,10 @@ pub mod Ghosts
 pub mod Stale
 pub mod Known
 pub mod Points
+pub mod Marked
 pub mod Values
 pub mod Lacks
 pub mod Found
+pub mod Decided
 pub mod StaleSteps
+pub mod HolderSteps

@@ -27,3 +27,6 @@ and_right a b e = grind arith
 
 pub or_right : (a b : Bool) → a ≡ false → (a || b) ≡ true → b ≡ true
 or_right a b n e = grind arith
+
+pub or_left_true : (a b : Bool) → a ≡ true → (a || b) ≡ true
+or_left_true a b e = grind arith
