@@ -9,3 +9,4 @@ pub mod Found
 pub mod Decided
 pub mod StaleSteps
 pub mod HolderSteps
+pub mod HolderSetSteps
