@@ -8,8 +8,8 @@ use Rattle.laws_writes.proofs.KeeperSteps.{keeper_set}
 use Rattle.laws_writes.proofs.Settled.{Since}
 use Rattle.laws_recovery.proofs.Ghosts.{Hold, with_keeper}
 use Rattle.laws_recovery.proofs.Known.{Known}
-use Rattle.laws_recovery.proofs.Lacks.{Decides, lacked}
-use Rattle.laws_recovery.proofs.Points.{either_if, and_left, and_right, same_point}
+use Rattle.laws_recovery.proofs.Lacks.{Decides, lacked, lacked_written, not_there}
+use Rattle.laws_recovery.proofs.Points.{clash, either_if, and_left, and_right, same_point}
 use Rattle.laws_recovery.proofs.Stale.{lacks}
 
 module _ (w : Part) (g : Ghost) (h : Hold) (z : Since) (a : Known w g h z) (n t : ℕ) (v : Sector) (d : Decides w g n t v) where
@@ -19,6 +19,13 @@ module _ (w : Part) (g : Ghost) (h : Hold) (z : Since) (a : Known w g h z) (n t 
   by_keeper P l s lack new old = either_if (λ k. P k s) ((s == t) && undecided g t) (g.keeper t) (h.hold l s)
       (λ e. subst (λ q. P (g.keeper t) q) (sym (same_point s t (and_left (s == t) (undecided g t) e))) (new (and_right (s == t) (undecided g t) e)))
       (λ e. old (lacked w g a.sound n t v d l s e lack))
+
+  -- a leg that all write to lacks what it did, elsewhere
+  pub decided_else : (P : ℕ → Type 0) (l s : ℕ) → is_written (w.ghost.agreed.role l) ≡ true → lacks w (with_value g t v) l s ≡ true
+      → (lacks w g l s ≡ true → P (h.hold l s)) → P ((with_keeper h g t).hold l s)
+  decided_else P l s written lack old = either_if P ((s == t) && undecided g t) (g.keeper t) (h.hold l s)
+      (λ e. absurd (clash (s == t) (and_left (s == t) (undecided g t) e) (not_there w g a.sound n t v d l s written lack)))
+      (λ e. old (lacked_written w g a.sound n t v d l s written lack))
 
   pub decided_holder : (l s : ℕ) → w.ghost.missed l ≡ true → lacks w (with_value g t v) l s ≡ true
       → (w.live ((with_keeper h g t).hold l s) || w.pending ((with_keeper h g t).hold l s)) ≡ true

@@ -126,11 +126,11 @@ module _ (w : Part) (g : Ghost) (h : Hold) (z : Since) (a : Known w g h z) where
       (λ apart recover found. a.stale.holder_read l s m missed lack (slots m (h.hold l s) recover) (founds m (chunk_in w s) found))
 
   -- a recovery that clears keeps its slot and what it found
-  same_recovers : (n p i : ℕ) (r : Recovering) → w.recovery n ≡ Some r → (m k : ℕ) → recovers (with_at w.recovery n (Some (with_cleared r p i)) m) k ≡ true → recovers (w.recovery m) k ≡ true
+  pub same_recovers : (n p i : ℕ) (r : Recovering) → w.recovery n ≡ Some r → (m k : ℕ) → recovers (with_at w.recovery n (Some (with_cleared r p i)) m) k ≡ true → recovers (w.recovery m) k ≡ true
   same_recovers n p i r rec m k = at_point (λ y. recovers y k ≡ true → recovers (w.recovery m) k ≡ true) w.recovery n (Some (with_cleared r p i)) m
       (λ is e. ap (λ j. recovers (w.recovery j) k) is ∙ ap (λ y. recovers y k) rec ∙ e) (λ apart e. e)
 
-  same_found : (n p i : ℕ) (r : Recovering) → w.recovery n ≡ Some r → (m c : ℕ) → found_in (with_at w.recovery n (Some (with_cleared r p i)) m) c ≡ true → found_in (w.recovery m) c ≡ true
+  pub same_found : (n p i : ℕ) (r : Recovering) → w.recovery n ≡ Some r → (m c : ℕ) → found_in (with_at w.recovery n (Some (with_cleared r p i)) m) c ≡ true → found_in (w.recovery m) c ≡ true
   same_found n p i r rec m c = at_point (λ y. found_in y c ≡ true → found_in (w.recovery m) c ≡ true) w.recovery n (Some (with_cleared r p i)) m
       (λ is e. ap (λ j. found_in (w.recovery j) c) is ∙ ap (λ y. found_in y c) rec ∙ e) (λ apart e. e)
 

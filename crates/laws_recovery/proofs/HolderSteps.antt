@@ -84,11 +84,11 @@ module _ (w : Part) (g : Ghost) (h : Hold) (z : Since) (a : Known w g h z) where
   page_has n l s up missed lack e =
       subst (λ k. (w.bitmap k).set (chunk_in w s) ≡ true) (same_point (h.hold l s) n e) (a.stale.holder_set l s missed lack (live_there w g h z a n (h.hold l s) (live_up w a.sound n up) e))
 
-  bit_marked : (n p i l s x : ℕ) (left : Bool) → is_up (w.state n) ≡ true → w.ghost.missed l ≡ true → lacks w g l s ≡ true
+  pub bit_marked : (n p i l s x : ℕ) (left : Bool) → is_up (w.state n) ≡ true → w.ghost.missed l ≡ true → lacks w g l s ≡ true
       → w.bit (h.hold l s) (chunk_in w s) x ≡ true → with_page_if left w.bit n p i (w.bitmap n).set (h.hold l s) (chunk_in w s) x ≡ true
   bit_marked n p i l s x left up missed lack old = bit_kept w.bit left n p i (w.bitmap n).set (h.hold l s) (chunk_in w s) x (page_has n l s up missed lack) old
 
-  bit_cleared : (n p i l s x : ℕ) (r : Recovering) (left : Bool) → SlotClears w n p i r → w.ghost.missed l ≡ true → lacks w g l s ≡ true → is_written (w.ghost.agreed.role x) ≡ true
+  pub bit_cleared : (n p i l s x : ℕ) (r : Recovering) (left : Bool) → SlotClears w n p i r → w.ghost.missed l ≡ true → lacks w g l s ≡ true → is_written (w.ghost.agreed.role x) ≡ true
       → w.bit (h.hold l s) (chunk_in w s) x ≡ true
       → with_page_if left w.bit r.slot p i (λ c. false) (if h.hold l s == r.slot then n else h.hold l s) (chunk_in w s) x ≡ true
   bit_cleared n p i l s x r left e missed lack written old =

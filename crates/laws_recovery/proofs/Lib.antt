@@ -3,6 +3,7 @@ pub mod Stale
 pub mod Known
 pub mod Points
 pub mod Marked
+pub mod Arms
 pub mod Values
 pub mod Lacks
 pub mod Found
@@ -10,3 +11,4 @@ pub mod Decided
 pub mod StaleSteps
 pub mod HolderSteps
 pub mod HolderSetSteps
+pub mod AgainSteps
