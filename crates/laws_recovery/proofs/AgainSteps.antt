@@ -38,7 +38,7 @@ use Rattle.laws_recovery.proofs.Points.{at_point, either_if, same_point, clash, 
 use Rattle.laws_recovery.proofs.Stale.{AgainArm, AgainTargets, AgainFresh, lacks, arm}
 
 -- another addition is no leg that is added again
-not_begun : (b : Addition) (x : Wish) (l : ℕ) → needs_known x ≡ true → is_metadata x ≡ false → is_range x ≡ false → is_again_of (after b x) l ≡ true → ⊥
+pub not_begun : (b : Addition) (x : Wish) (l : ℕ) → needs_known x ≡ true → is_metadata x ≡ false → is_range x ≡ false → is_again_of (after b x) l ≡ true → ⊥
 not_begun b (wishes.NewDisk k) l known other no_range e = cc
 not_begun b (wishes.Remove k) l known other no_range e = cc
 not_begun b (wishes.ReAdd k) l known other no_range e = cc
@@ -51,7 +51,7 @@ begins b y l e = grind arith
 nothing_again : (b : Addition) (l : ℕ) → b ≡ Nothing → is_again_of b l ≡ true → ⊥
 nothing_again b l is e = clash (is_again_of b l) e (ap (λ x. is_again_of x l) is)
 
-or_false : (a b : Bool) → (a || b) ≡ false → a ≡ false
+pub or_false : (a b : Bool) → (a || b) ≡ false → a ≡ false
 or_false a b e = grind arith
 
 right_false : (a b : Bool) → (a || b) ≡ false → b ≡ false
@@ -63,7 +63,7 @@ Told y l c place A = is_again_of y.addition l ≡ true → y.gathering.gathered 
 
 module _ (w : Part) (n : ℕ) (o : Offer) (x : Whole w n o) (meta : is_metadata o.wish ≡ true) where
   -- a whole round of the superblock leaves nothing gathered
-  none_begun : (m l : ℕ) → let y = with_at w.adding n (record { addition = after (w.adding n).addition o.wish; gathering = gathering_after (after (w.adding n).addition o.wish) (w.adding n).gathering }) m in
+  pub none_begun : (m l : ℕ) → let y = with_at w.adding n (record { addition = after (w.adding n).addition o.wish; gathering = gathering_after (after (w.adding n).addition o.wish) (w.adding n).gathering }) m in
       is_again_of y.addition l ≡ true → 0 < y.gathering.next → ⊥
   none_begun m l = at_point (λ y. is_again_of y.addition l ≡ true → 0 < y.gathering.next → ⊥) w.adding n _ m
       (λ is e lt. let none = begins (after (w.adding n).addition o.wish) (w.adding n).gathering l e in omega (arith, none, lt))
@@ -73,7 +73,7 @@ module _ (w : Part) (n : ℕ) (o : Offer) (x : Whole w n o) (meta : is_metadata 
       differ i j e = grind (arith, nat_tests)
 
 module _ (w : Part) (g : Ghost) (h : Hold) (z : Since) (a : Known w g h z) where
-  missed : (n l : ℕ) → is_again_of (w.adding n).addition l ≡ true → w.ghost.missed l ≡ true
+  pub missed : (n l : ℕ) → is_again_of (w.adding n).addition l ≡ true → w.ghost.missed l ≡ true
   missed n l e = a.sound.additions.again_missed n l e
 
   -- the page that is due, of the slot that answers: it has the chunk
@@ -91,7 +91,7 @@ module _ (w : Part) (g : Ghost) (h : Hold) (z : Since) (a : Known w g h z) where
       both : (m j : ℕ) (b : Bool) → m ≡ j → b ≡ true → ((m == j) && b) ≡ true
       both m j b same e = grind (arith, nat_tests)
 
-  gathered_else : (n k p i : ℕ) (has : ℕ → Bool) → Gathers w n k p i has → (l s : ℕ) → is_again_of (w.adding n).addition l ≡ true → lacks w g l s ≡ true
+  pub gathered_else : (n k p i : ℕ) (has : ℕ → Bool) → Gathers w n k p i has → (l s : ℕ) → is_again_of (w.adding n).addition l ≡ true → lacks w g l s ≡ true
       → ((w.adding n).gathering.gathered (chunk_in w s) || has (chunk_in w s)) ≡ false → place_of w (h.hold l s) (chunk_in w s) < (w.adding n).gathering.next + 1
       → IsPast w n (h.hold l s) (chunk_in w s)
   gathered_else n k p i has e l s again lack gathered past =
@@ -113,7 +113,7 @@ module _ (w : Part) (g : Ghost) (h : Hold) (z : Since) (a : Known w g h z) where
   arm_before : (m l s : ℕ) → lacks w g l s ≡ true → Told (w.adding m) l (chunk_in w s) (place_of w (h.hold l s) (chunk_in w s)) (arm w (h.hold l s) (chunk_in w s) ≡ true)
   arm_before m l s lack again gathered past = a.stale.again_arm m l s again lack gathered past
 
-some_before : (i j : ℕ) → i < j → 0 < j
+pub some_before : (i j : ℕ) → i < j → 0 < j
 some_before i j lt = omega arith
 
 pub again_arm : (w v : Part) (x : Way w v) (g : Ghost) (h : Hold) (z : Since) → Known w g h z → AgainArm v (ghost_after x g) (hold_after x g h)

@@ -89,12 +89,12 @@ module _ (w : Part) (g : Ghost) (h : Hold) (z : Since) (a : Known w g h z) where
   bit_marked n p i l s x left up missed lack old = bit_kept w.bit left n p i (w.bitmap n).set (h.hold l s) (chunk_in w s) x (page_has n l s up missed lack) old
 
   pub bit_cleared : (n p i l s x : ℕ) (r : Recovering) (left : Bool) → SlotClears w n p i r → w.ghost.missed l ≡ true → lacks w g l s ≡ true → is_written (w.ghost.agreed.role x) ≡ true
-      → w.bit (h.hold l s) (chunk_in w s) x ≡ true
+      → ((h.hold l s == r.slot) ≡ false → w.bit (h.hold l s) (chunk_in w s) x ≡ true)
       → with_page_if left w.bit r.slot p i (λ c. false) (if h.hold l s == r.slot then n else h.hold l s) (chunk_in w s) x ≡ true
   bit_cleared n p i l s x r left e missed lack written old =
       either_if (λ k. with_page_if left w.bit r.slot p i (λ c. false) k (chunk_in w s) x ≡ true) (h.hold l s == r.slot) n (h.hold l s)
       (λ is. bit_else w.bit left r.slot p i (λ c. false) n (chunk_in w s) x (apart_sym r.slot n e.all.opened.other) (missed_bit w g h z a n p i l s x r e missed lack (same_point (h.hold l s) r.slot is) written))
-      (λ apart. bit_else w.bit left r.slot p i (λ c. false) (h.hold l s) (chunk_in w s) x apart old)
+      (λ apart. bit_else w.bit left r.slot p i (λ c. false) (h.hold l s) (chunk_in w s) x apart (old apart))
 
   working_written : (r : Role) → is_working r ≡ true → is_written r ≡ true
   working_written r e = grind arith
@@ -124,9 +124,9 @@ holder_working w v (ways.settles n p b e) g h z a l s j missed lack working = le
 holder_working w v (ways.marks n p i e) g h z a l s j missed lack working = bit_marked w g h z a n p i l s j true e.up missed lack (a.stale.holder_working l s j missed lack working)
 holder_working w v (ways.misses_page n p i left e) g h z a l s j missed lack working = bit_marked w g h z a n p i l s j left e.up missed lack (a.stale.holder_working l s j missed lack working)
 holder_working w v (ways.slot_clears n p i r e) g h z a l s j missed lack working =
-    bit_cleared w g h z a n p i l s j r true e missed lack (working_written w g h z a (w.ghost.agreed.role j) working) (a.stale.holder_working l s j missed lack working)
+    bit_cleared w g h z a n p i l s j r true e missed lack (working_written w g h z a (w.ghost.agreed.role j) working) (λ apart. a.stale.holder_working l s j missed lack working)
 holder_working w v (ways.misses_slot n p i r left e) g h z a l s j missed lack working =
-    bit_cleared w g h z a n p i l s j r left e missed lack (working_written w g h z a (w.ghost.agreed.role j) working) (a.stale.holder_working l s j missed lack working)
+    bit_cleared w g h z a n p i l s j r left e missed lack (working_written w g h z a (w.ghost.agreed.role j) working) (λ apart. a.stale.holder_working l s j missed lack working)
 holder_working w v x g h z a l s j missed lack working = a.stale.holder_working l s j missed lack working
 
 pub holder_good : (w v : Part) (x : Way w v) (g : Ghost) (h : Hold) (z : Since) → Known w g h z → HolderGood v (ghost_after x g) (hold_after x g h)
@@ -151,7 +151,7 @@ holder_good w v (ways.settles n p b e) g h z a l s j faulty lack good =
 holder_good w v (ways.marks n p i e) g h z a l s j faulty lack good = bit_marked w g h z a n p i l s j true e.up (a.sound.additions.faulty_missed l faulty) lack (a.stale.holder_good l s j faulty lack good)
 holder_good w v (ways.misses_page n p i left e) g h z a l s j faulty lack good = bit_marked w g h z a n p i l s j left e.up (a.sound.additions.faulty_missed l faulty) lack (a.stale.holder_good l s j faulty lack good)
 holder_good w v (ways.slot_clears n p i r e) g h z a l s j faulty lack good =
-    bit_cleared w g h z a n p i l s j r true e (a.sound.additions.faulty_missed l faulty) lack (good_written w a.sound j good) (a.stale.holder_good l s j faulty lack good)
+    bit_cleared w g h z a n p i l s j r true e (a.sound.additions.faulty_missed l faulty) lack (good_written w a.sound j good) (λ apart. a.stale.holder_good l s j faulty lack good)
 holder_good w v (ways.misses_slot n p i r left e) g h z a l s j faulty lack good =
-    bit_cleared w g h z a n p i l s j r left e (a.sound.additions.faulty_missed l faulty) lack (good_written w a.sound j good) (a.stale.holder_good l s j faulty lack good)
+    bit_cleared w g h z a n p i l s j r left e (a.sound.additions.faulty_missed l faulty) lack (good_written w a.sound j good) (λ apart. a.stale.holder_good l s j faulty lack good)
 holder_good w v x g h z a l s j faulty lack good = a.stale.holder_good l s j faulty lack good

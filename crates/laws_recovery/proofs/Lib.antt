@@ -12,3 +12,4 @@ pub mod StaleSteps
 pub mod HolderSteps
 pub mod HolderSetSteps
 pub mod AgainSteps
+pub mod AgainMarkSteps

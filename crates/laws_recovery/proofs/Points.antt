@@ -30,3 +30,6 @@ or_right a b n e = grind arith
 
 pub or_left_true : (a b : Bool) → a ≡ true → (a || b) ≡ true
 or_left_true a b e = grind arith
+
+pub else_is : (b : Bool) (m n : ℕ) → b ≡ false → (if b then m else n) ≡ n
+else_is b m n e = grind arith
