@@ -25,7 +25,7 @@ use Rattle.laws_recovery.proofs.Marked.{wish_agreed}
 use Rattle.laws_recovery.proofs.Points.{at_point, clash, else_is}
 use Rattle.laws_recovery.proofs.Stale.{AgainTargets, AgainFresh, lacks}
 
-else_false : (b c : Bool) → b ≡ false → c ≡ false → (if b then true else c) ≡ false
+pub else_false : (b c : Bool) → b ≡ false → c ≡ false → (if b then true else c) ≡ false
 else_false b c e f = grind arith
 
 module _ (w : Part) (g : Ghost) (h : Hold) (z : Since) (a : Known w g h z) where
@@ -101,7 +101,7 @@ module _ (w : Part) (g : Ghost) (h : Hold) (z : Since) (a : Known w g h z) where
           let pass = a.settled.since_pass j s some is in
           absurd (clash (has_pass (w.copy n)) (subst (λ q. has_pass (w.copy q) ≡ true) same pass) (ap is_some e.pass))
 
-  some_else : (recovery : ℕ → Option Recovering) (n k : ℕ) (x : Option Recovering) → is_some (recovery n) ≡ true → is_some (with_at recovery n x k) ≡ true → is_some (recovery k) ≡ true
+  pub some_else : (recovery : ℕ → Option Recovering) (n k : ℕ) (x : Option Recovering) → is_some (recovery n) ≡ true → is_some (with_at recovery n x k) ≡ true → is_some (recovery k) ≡ true
   some_else recovery n k x here = at_point (λ y. is_some y ≡ true → is_some (recovery k) ≡ true) recovery n x k (λ is e. subst (λ q. is_some (recovery q) ≡ true) (sym is) here) (λ apart e. e)
 
 pub again_fresh : (w v : Part) (x : Way w v) (g : Ghost) (h : Hold) (z : Since) → Known w g h z → AgainFresh v (ghost_after x g) (since_after x z)

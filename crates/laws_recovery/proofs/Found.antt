@@ -45,10 +45,10 @@ again_readd b (wishes.Range r) l meta e = cc
 again_readd b x l meta e = cc
 
 module _ (w : Part) (g : Ghost) (h : Hold) (z : Since) (a : Known w g h z) where
-  reads_working : (n : ℕ) → is_up (w.state n) ≡ true → Acked w n → is_working (w.ghost.agreed.role (read_leg w n)) ≡ true
+  pub reads_working : (n : ℕ) → is_up (w.state n) ≡ true → Acked w n → is_working (w.ghost.agreed.role (read_leg w n)) ≡ true
   reads_working n up acked = sym (acked_works w a.sound n (read_leg w n) up acked) ∙ a.sound.serves n (up_inside (w.state n) up)
 
-  reads_good : (n : ℕ) → is_up (w.state n) ≡ true → w.ghost.good (read_leg w n) ≡ true
+  pub reads_good : (n : ℕ) → is_up (w.state n) ≡ true → w.ghost.good (read_leg w n) ≡ true
   reads_good n up = read_good w a.sound n (up_inside (w.state n) up)
 
   found_there : (n c : ℕ) (r : Recovering) → AllRead w n r → w.bit r.slot c (read_leg w n) ≡ true → r.found c ≡ true

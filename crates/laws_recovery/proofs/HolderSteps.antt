@@ -106,7 +106,7 @@ module _ (w : Part) (g : Ghost) (h : Hold) (z : Since) (a : Known w g h z) where
       let here = ap is_faulty (acked_role w a.sound n l (e.up known) (e.acked known)) ∙ faulty in
       faulty_rebuilds ((w.view n).role x) (subst (λ k. is_faulty ((w.view n).role k) ≡ true) (e.none_faulty x l p here) here) (e.rebuilding x p)
 
-  offered_good : (n : ℕ) (o : Offer) → ways.Whole w n o → is_metadata o.wish ≡ true → (x : ℕ) → is_working (o.role x) ≡ true → w.ghost.good x ≡ true
+  pub offered_good : (n : ℕ) (o : Offer) → ways.Whole w n o → is_metadata o.wish ≡ true → (x : ℕ) → is_working (o.role x) ≡ true → w.ghost.good x ≡ true
   offered_good n o e meta x working = a.sound.roles.offer_good n x (ap changes_super e.offer ∙ meta) (ap (λ y. is_working (offered_role y x)) e.offer ∙ working)
 
 pub holder_working : (w v : Part) (x : Way w v) (g : Ghost) (h : Hold) (z : Since) → Known w g h z → HolderWorking v (ghost_after x g) (hold_after x g h)

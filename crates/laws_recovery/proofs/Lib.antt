@@ -13,3 +13,5 @@ pub mod HolderSteps
 pub mod HolderSetSteps
 pub mod AgainSteps
 pub mod AgainMarkSteps
+pub mod Covering
+pub mod CoveredSteps
