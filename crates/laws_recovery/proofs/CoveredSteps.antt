@@ -49,10 +49,10 @@ module _ (w : Part) (g : Ghost) (h : Hold) (z : Since) (a : Known w g h z) where
   arm_mapped f m l s lack covered left = mapped f (w.copy m).pass l (chunk_in w s) (arm w (h.hold l s) (chunk_in w s) ≡ true) covered left (arm_before m l s lack)
 
   -- a pass of the node that goes
-  arm_gone : (m n l s : ℕ) (A : Type 0) → ((m == n) ≡ false → covers w m l ≡ true → todo w m (chunk_in w s) ≡ false → A) → Copies l (chunk_in w s) A (with_at w.copy n no_copy m)
+  pub arm_gone : (m n l s : ℕ) (A : Type 0) → ((m == n) ≡ false → covers w m l ≡ true → todo w m (chunk_in w s) ≡ false → A) → Copies l (chunk_in w s) A (with_at w.copy n no_copy m)
   arm_gone m n l s A old = at_point (Copies l (chunk_in w s) A) w.copy n no_copy m (λ is e. cc) old
 
-  settled_covers : (n l : ℕ) (f : Passing → Passing) (x : Option Passing) → ((p : Passing) → (f p).covered l ≡ true → p.covered l ≡ true) → covered_by (option_map f x) l ≡ true → covered_by x l ≡ true
+  pub settled_covers : (n l : ℕ) (f : Passing → Passing) (x : Option Passing) → ((p : Passing) → (f p).covered l ≡ true → p.covered l ≡ true) → covered_by (option_map f x) l ≡ true → covered_by x l ≡ true
   settled_covers n l f None same e = cc
   settled_covers n l f (Some p) same e = same p e
 

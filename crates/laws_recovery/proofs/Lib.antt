@@ -15,3 +15,4 @@ pub mod AgainSteps
 pub mod AgainMarkSteps
 pub mod Covering
 pub mod CoveredSteps
+pub mod CoveredGoodSteps
