@@ -16,3 +16,4 @@ pub mod AgainMarkSteps
 pub mod Covering
 pub mod CoveredSteps
 pub mod CoveredGoodSteps
+pub mod CoveredFreshSteps
