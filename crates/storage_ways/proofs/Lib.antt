@@ -2,3 +2,5 @@ pub mod Parts
 pub mod Sound
 pub mod Ways
 pub mod Roled
+pub mod Place
+pub mod Blocks
