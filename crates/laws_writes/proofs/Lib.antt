@@ -4,3 +4,8 @@ pub mod Windows
 pub mod Contents
 pub mod Pages
 pub mod Intent
+pub mod ListSteps
+pub mod RangeSteps
+pub mod FormSteps
+pub mod NoWriteSteps
+pub mod WindowSteps
