@@ -12,3 +12,5 @@ pub mod Heirs
 pub mod KeeperSteps
 pub mod Settling
 pub mod NeedSteps
+pub mod MarkSteps
+pub mod CoverSteps
