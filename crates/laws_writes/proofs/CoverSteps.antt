@@ -68,7 +68,7 @@ left_settled g (Some q) p b l c is same h =
     let whole : q ≡ p = cc in
     (h.0, sym (subst (λ z. (settled_at g z b).todo c ≡ z.todo c) (sym whole) same) ∙ h.1)
 
-true_not_false : false ≡ true → ⊥
+pub true_not_false : false ≡ true → ⊥
 true_not_false e = cc
 
 not_left : (c n : ℕ) → c < n → nat_lt c n ≡ false → ⊥

@@ -14,3 +14,4 @@ pub mod Settling
 pub mod NeedSteps
 pub mod MarkSteps
 pub mod CoverSteps
+pub mod AgainSteps
