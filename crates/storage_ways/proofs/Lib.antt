@@ -4,3 +4,4 @@ pub mod Ways
 pub mod Roled
 pub mod Place
 pub mod Blocks
+pub mod Standing
