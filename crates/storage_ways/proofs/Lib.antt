@@ -5,3 +5,5 @@ pub mod Roled
 pub mod Place
 pub mod Blocks
 pub mod Standing
+pub mod Guarding
+pub mod RequestRows
