@@ -7,3 +7,5 @@ pub mod Blocks
 pub mod Standing
 pub mod Guarding
 pub mod RequestRows
+pub mod BitmapRows
+pub mod CopyRows
