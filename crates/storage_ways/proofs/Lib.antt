@@ -9,3 +9,4 @@ pub mod Guarding
 pub mod RequestRows
 pub mod BitmapRows
 pub mod CopyRows
+pub mod RecoveryRows
