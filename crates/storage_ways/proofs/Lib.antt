@@ -10,3 +10,4 @@ pub mod RequestRows
 pub mod BitmapRows
 pub mod CopyRows
 pub mod RecoveryRows
+pub mod GrantRows
