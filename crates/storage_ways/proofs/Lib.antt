@@ -11,3 +11,4 @@ pub mod BitmapRows
 pub mod CopyRows
 pub mod RecoveryRows
 pub mod GrantRows
+pub mod ComingRows
