@@ -12,3 +12,5 @@ pub mod CopyRows
 pub mod RecoveryRows
 pub mod GrantRows
 pub mod ComingRows
+pub mod GoingRows
+pub mod OfferRows
