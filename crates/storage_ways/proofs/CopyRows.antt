@@ -29,7 +29,7 @@ use Rattle.cluster_model.specs.Gathering.{is_again, is_again_of, due_page, leg_t
 use Rattle.cluster_model.specs.Passes.{resync_guards, pass_guards, pass_again_guards, done_guards, ask_resync, pass_own, pass_full, pass_again, end_pass, open_window}
 use Rattle.cluster_model.specs.Phases.{is_in, is_up, is_unclean, offers, copy_word}
 use Rattle.laws_sound.proofs.Guarded.{all_none, unless_none, refused_none, found_none}
-use Rattle.storage_ways.proofs.Parts.{Part, with_data, with_data_if}
+use Rattle.storage_ways.proofs.Parts.{Part, with_data, with_data_if, decided_values}
 use Rattle.storage_ways.proofs.Place.{Around, here, Place}
 use Rattle.storage_ways.proofs.Blocks.{retold, told_high}
 use Rattle.storage_ways.proofs.Guarding.{Found, found_some, acked_by, all_targets, below_legs, not_asked, lock_alone, in_window, InWindow, with_buffer, WithBuffer, has_turn, none_open}
@@ -279,11 +279,19 @@ module _ (core : Core) (a : Around) (p : Place core a) where
   pub missed_copy_way : (n l : ℕ) (c : Copied n l) (left : Bool) → Way (here core a) (here core (record a { stored = with_data_if left a.stored l c.it.buffer.sector c.it.buffer.value }))
   missed_copy_way n l c left = misses_copy n l c.it.passing c.it.buffer left c.copies
 
-  pub settle_way : (n : ℕ) → first_of (settle_guards core n) ≡ None → Way (here core a) (here (settle core n) a)
-  settle_way n ok =
+  pub record Settled (n : ℕ) : Type 0 where
+    pub it : Buffered n
+    pub settles : Settles (here core a) n it.passing it.buffer
+
+  pub settled : (n : ℕ) → first_of (settle_guards core n) ≡ None → Settled n
+  settled n ok =
       let g = (all_none (settle_guards core n) ok).1.1.1 in
       let c = core.copy n in
       let b = buffered n (unless_none (is_up (core.state n)) _ g.0) (with_buffer c.turn c.pass c.window (unless_none _ _ g.1.0)) (acked_by core a p n g.1.1.0) in
       let done : missing_target (is_target (core.view n)) b.buffer ≡ None = subst (λ x. uncopied_target core n x ≡ None) b.of (refused_none NotWritten (uncopied_target core n (buffer_of core n)) g.1.1.1.0) in
-      subst (λ x. Way (here core a) (here (settle_buffer core n x) a)) (sym b.of)
-      (settles n b.passing b.buffer (record { buffers = b.buffers; done = all_targets core a p n (has_bit b.buffer.done) done }))
+      record { it = b; settles = record { buffers = b.buffers; done = all_targets core a p n (has_bit b.buffer.done) done } }
+
+  pub settle_way : (n : ℕ) (s : Settled n) → Way (here core a) (here (settle core n) (record a { values = decided_values a.values s.it.buffer.sector s.it.buffer.value }))
+  settle_way n s =
+      subst (λ x. Way (here core a) (here (settle_buffer core n x) (record a { values = decided_values a.values s.it.buffer.sector s.it.buffer.value }))) (sym s.it.of)
+      (settles n s.it.passing s.it.buffer s.settles)

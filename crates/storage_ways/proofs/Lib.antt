@@ -14,3 +14,5 @@ pub mod GrantRows
 pub mod ComingRows
 pub mod KeptWrites
 pub mod Flying
+pub mod GoingRows
+pub mod OfferRows

@@ -24,7 +24,7 @@ use Rattle.cluster_model.specs.Phases.{is_up}
 use Rattle.cluster_model.specs.Writes.{w_guards, out_guards, ok_guards, break_guards, ask_write, start_write, out_done, end_write, break_write, write_ended, bitmap_ended, write_sector, writer_of, any_of_sector, unmarked_leg, unwritten_target}
 use Rattle.laws_sound.proofs.Guarded.{all_none, unless_none, refused_none, found_none}
 use Rattle.laws_sound.proofs.RoundFacts.{here as same_point}
-use Rattle.storage_ways.proofs.Parts.{Part, with_data, with_data_if}
+use Rattle.storage_ways.proofs.Parts.{Part, with_data, with_data_if, tried_values, decided_values}
 use Rattle.storage_ways.proofs.Place.{Around, here, Place}
 use Rattle.storage_ways.proofs.Guarding.{Found, found_some, acked_by, all_targets, target_leg, below_legs, both_nots}
 use Rattle.storage_ways.proofs.Ways.{Way, Acked, Finds, Asking, Trying, Ending, Finishing, asks, outs, misses, ends, breaks}
@@ -147,14 +147,14 @@ module _ (core : Core) (a : Around) (p : Place core a) where
         };
       }
 
-  out_by : (n k l : ℕ) (t : Tries n k l) (x : Option ℕ) → Way (here core a) (here (record (headed core n l x) { writes = with_at core.writes n (done_in k l (start_in k (core.writes n))) }) (record a { stored = with_data a.stored l t.write.sector t.write.value }))
+  out_by : (n k l : ℕ) (t : Tries n k l) (x : Option ℕ) → Way (here core a) (here (record (headed core n l x) { writes = with_at core.writes n (done_in k l (start_in k (core.writes n))) }) (record a { stored = with_data a.stored l t.write.sector t.write.value; values = tried_values a.values t.write }))
   out_by n k l t None = outs n k l t.write t.trying
   out_by n k l t (Some s) = outs n k l t.write t.trying
 
-  pub out_way : (n k l : ℕ) (t : Tries n k l) → Way (here core a) (here (out_done core n k l) (record a { stored = with_data a.stored l t.write.sector t.write.value }))
+  pub out_way : (n k l : ℕ) (t : Tries n k l) → Way (here core a) (here (out_done core n k l) (record a { stored = with_data a.stored l t.write.sector t.write.value; values = tried_values a.values t.write }))
   out_way n k l t = out_by n k l t (write_sector (write_in k (core.writes n)))
 
-  pub missed_way : (n k l : ℕ) (t : Tries n k l) (left : Bool) → Way (here core a) (here (start_write core n k) (record a { stored = with_data_if left a.stored l t.write.sector t.write.value }))
+  pub missed_way : (n k l : ℕ) (t : Tries n k l) (left : Bool) → Way (here core a) (here (start_write core n k) (record a { stored = with_data_if left a.stored l t.write.sector t.write.value; values = tried_values a.values t.write }))
   missed_way n k l t left = misses n k l t.write left t.trying
 
   pub tried_found : (n k l : ℕ) (t : Tries n k l) → write_in k ((start_write core n k).writes n) ≡ Some (started t.write)
@@ -162,22 +162,33 @@ module _ (core : Core) (a : Around) (p : Place core a) where
 
   -- A write ends.
 
-  pub end_way : (n k : ℕ) → first_of (ok_guards core n k) ≡ None → Way (here core a) (here (end_write core n k) a)
-  end_way n k ok =
+  pub record Ended (n k : ℕ) : Type 0 where
+    pub write : LiveWrite
+    pub finishing : Finishing (here core a) n k write
+
+  pub ended : (n k : ℕ) → first_of (ok_guards core n k) ≡ None → Ended n k
+  ended n k ok =
       let g = (all_none (ok_guards core n k) ok).1.1.1 in
       let f = found_some (write_in k (core.writes n)) (found_none (write_in k (core.writes n)) (NoWrite k) g.1.0) in
       let done : missing_leg (is_target (core.view n)) f.item ≡ None = subst (λ y. unwritten_target core n y ≡ None) f.is (refused_none NotWritten (unwritten_target core n (write_in k (core.writes n))) g.1.1.1.0) in
-      subst (λ y. Way (here core a) (record (here (end_write core n k) a) { bitmap = with_at core.bitmap n (bitmap_ended core n y false) })) (sym f.is)
-      (ends n k f.item (record {
-        ending = record {
-          up = unless_none (is_up (core.state n)) _ g.0;
-          write = f.is;
-          sector = (p.known.range.flight.requests n).write_sectors k f.item f.is;
-          finds = λ j. write_in-without j k (core.writes n);
+      record {
+        write = f.item;
+        finishing = record {
+          ending = record {
+            up = unless_none (is_up (core.state n)) _ g.0;
+            write = f.is;
+            sector = (p.known.range.flight.requests n).write_sectors k f.item f.is;
+            finds = λ j. write_in-without j k (core.writes n);
+          };
+          acked = acked_by core a p n g.1.1.0;
+          done = all_targets core a p n (is_done f.item) done;
         };
-        acked = acked_by core a p n g.1.1.0;
-        done = all_targets core a p n (is_done f.item) done;
-      }))
+      }
+
+  pub end_way : (n k : ℕ) (e : Ended n k) → Way (here core a) (here (end_write core n k) (record a { values = decided_values a.values e.write.sector e.write.value }))
+  end_way n k e =
+      subst (λ y. Way (here core a) (record (here (end_write core n k) (record a { values = decided_values a.values e.write.sector e.write.value })) { bitmap = with_at core.bitmap n (bitmap_ended core n y false) })) (sym e.finishing.ending.write)
+      (ends n k e.write e.finishing)
 
 -- a write that isn't ended is broken
 pub broken_from : (core : Core) (a : Around) (n k : ℕ) (x : LiveWrite) → is_up (core.state n) ≡ true → write_in k (core.writes n) ≡ Some x → x.sector < (sizes core).room → Way (here core a) (here (write_ended core n k true) a)
