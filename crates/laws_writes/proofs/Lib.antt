@@ -9,3 +9,14 @@ pub mod RangeSteps
 pub mod FormSteps
 pub mod NoWriteSteps
 pub mod WindowSteps
+pub mod Recoverers
+pub mod PageSteps
+pub mod Places
+pub mod UndecidedSteps
+pub mod Heirs
+pub mod KeeperSteps
+pub mod Settling
+pub mod NeedSteps
+pub mod MarkSteps
+pub mod CoverSteps
+pub mod AgainSteps

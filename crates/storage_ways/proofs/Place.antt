@@ -1,5 +1,5 @@
 -- A place of a run: what is known of the core there, and what follows for its part.
-use Rattle.std.proofs.Common.{◌≡◌, ◌≢◌, inl, inr, ℕ, ◌<◌, ◌≤◌, ◌==◌, Bool, true, false, not, Option, Some, None, refl, sym, ap, subst, ◌∙◌, arith}
+use Rattle.std.proofs.Common.{◌≡◌, ◌≢◌, inl, inr, ℕ, ◌<◌, ◌≤◌, ◌==◌, List, Bool, true, false, not, Option, Some, None, refl, sym, ap, subst, ◌∙◌, arith}
 use Rattle.std.specs.Prelude.{is_some, is_none as is_no, unwrap_or, if◌then◌else◌}
 use Rattle.std.proofs.lemmas.Bool.Decides.{nat_tests}
 use Rattle.dlm_modes.specs.First.{first_such}
@@ -34,15 +34,16 @@ use Rattle.laws_roles.proofs.Known.{Known}
 use Rattle.storage_ways.proofs.Parts.{Part, part_of, read_leg, has_pass}
 use Rattle.storage_ways.proofs.Sound.{Sound, Phases, Turns, Rests, Within}
 
--- what stands on the legs beside the core, and the ghosts of roles
+-- what stands on the legs beside the core, the ghosts of roles, and the values by the plain history
 pub record Around : Type 0 where
   pub super : ℕ → Option Says
   pub bit : ℕ → ℕ → ℕ → Bool
   pub stored : ℕ → ℕ → Sector
   pub ghost : roles.Ghost
+  pub values : ℕ → List Sector
 
 abbrev pub here : Core → Around → Part
-here core a = part_of core a.super a.bit a.stored a.ghost
+here core a = part_of core a.super a.bit a.stored a.ghost a.values
 
 -- what roles keep of the same
 abbrev pub roles_here : Core → Around → roles.Part
