@@ -18,7 +18,7 @@ use Rattle.laws_writes.proofs.Pages.{Pages}
 use Rattle.laws_writes.proofs.Intent.{Intents}
 use Rattle.laws_writes.proofs.Places.{page_lt}
 
-up_inside : (x : NodeState) → is_up x ≡ true → is_in x ≡ true
+pub up_inside : (x : NodeState) → is_up x ≡ true → is_in x ≡ true
 up_inside states.Up e = refl
 up_inside x e = cc
 

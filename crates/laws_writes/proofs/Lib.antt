@@ -5,6 +5,11 @@ pub mod Contents
 pub mod Pages
 pub mod Intent
 pub mod Settled
+pub mod ListSteps
+pub mod RangeSteps
+pub mod FormSteps
+pub mod NoWriteSteps
+pub mod WindowSteps
 pub mod Recoverers
 pub mod PageSteps
 pub mod Places
@@ -13,3 +18,6 @@ pub mod Heirs
 pub mod KeeperSteps
 pub mod Settling
 pub mod NeedSteps
+pub mod MarkSteps
+pub mod CoverSteps
+pub mod AgainSteps

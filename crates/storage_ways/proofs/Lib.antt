@@ -2,3 +2,17 @@ pub mod Parts
 pub mod Sound
 pub mod Ways
 pub mod Roled
+pub mod Place
+pub mod Blocks
+pub mod Standing
+pub mod Guarding
+pub mod RequestRows
+pub mod BitmapRows
+pub mod CopyRows
+pub mod RecoveryRows
+pub mod GrantRows
+pub mod ComingRows
+pub mod KeptWrites
+pub mod Flying
+pub mod GoingRows
+pub mod OfferRows

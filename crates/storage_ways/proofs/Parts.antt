@@ -1,6 +1,6 @@
 -- What writes, marks, copying and recovery go by: what nodes keep of them, their views and rounds,
 -- and what stands on the legs.
-use Rattle.std.specs.Prelude.{ℕ, ◌≤◌, ◌+◌, ◌==◌, Bool, true, false, not, ◌&&◌, ◌||◌, nat_lt, if◌then◌else◌, Option, Some, None, is_some, List, [], ◌∷◌, unwrap_or}
+use Rattle.std.specs.Prelude.{ℕ, ◌≤◌, ◌+◌, ◌==◌, Bool, true, false, not, ◌&&◌, ◌||◌, nat_lt, if◌then◌else◌, Option, Some, None, is_some, List, [], ◌∷◌, ◌++◌, unwrap_or}
 use Rattle.std.specs.Prelude.{◌≡◌}
 use Rattle.dlm_modes.specs.Points.{with_at}
 use Rattle.mdc_types.specs.Geometry.{Sizes, chunk_of, nodes_of, page_of}
@@ -60,6 +60,8 @@ pub record Part : Type 0 where
   pub stored : ℕ → ℕ → Sector
   -- what was agreed on, and the other ghosts of roles
   pub ghost : roles.Ghost
+  -- by sector: the values that a read may give, by the plain history
+  pub values : ℕ → List Sector
 
 abbrev pub told_by : (ℕ → Lock) → ℕ → Option Range
 told_by locks m =
@@ -69,8 +71,8 @@ told_by locks m =
 abbrev pub bits_on : Sizes → Legs → ℕ → ℕ → ℕ → Bool
 bits_on g legs k c l = nat_lt k (nodes_of g) && bit_on g legs k c l
 
-abbrev pub part_of : Core → (ℕ → Option Says) → (ℕ → ℕ → ℕ → Bool) → (ℕ → ℕ → Sector) → roles.Ghost → Part
-part_of core super bit stored ghost = record {
+abbrev pub part_of : Core → (ℕ → Option Says) → (ℕ → ℕ → ℕ → Bool) → (ℕ → ℕ → Sector) → roles.Ghost → (ℕ → List Sector) → Part
+part_of core super bit stored ghost values = record {
   geometry = core.array.sizes;
   state = core.state;
   view = core.view;
@@ -95,6 +97,7 @@ part_of core super bit stored ghost = record {
   bit = bit;
   stored = stored;
   ghost = ghost;
+  values = values;
 }
 
 -- of this part, what says who may be read
@@ -232,3 +235,10 @@ with_data stored l s v i t = if (i == l) && (t == s) then v else stored i t
 
 abbrev pub with_data_if : Bool → (ℕ → ℕ → Sector) → ℕ → ℕ → Sector → ℕ → ℕ → Sector
 with_data_if left stored l s v i t = if left && (i == l) && (t == s) then v else stored i t
+
+-- the values of the sectors where a write is tried, and where one is decided
+abbrev pub tried_values : (ℕ → List Sector) → LiveWrite → ℕ → List Sector
+tried_values values x s = if (x.sector == s) && not x.started then values s ++ x.value ∷ [] else values s
+
+abbrev pub decided_values : (ℕ → List Sector) → ℕ → Sector → ℕ → List Sector
+decided_values values t v s = if t == s then v ∷ [] else values s

@@ -47,7 +47,7 @@ use Rattle.laws_locks.specs.Rounded.{has_token}
 use Rattle.laws_roles.proofs.Parts as roles
 use Rattle.laws_roles.proofs.Parts.{changes_super, offered_role, heard_role, promotes, needs_known, with_finish, with_source, with_wish}
 use Rattle.storage_ways.proofs.Sound.{Sound}
-use Rattle.storage_ways.proofs.Parts.{Part, chunk_in, is_range, offered_range, tells_range, has_pass, buffer_in, covers, recovers, with_page, with_page_if, with_data, with_data_if}
+use Rattle.storage_ways.proofs.Parts.{Part, chunk_in, is_range, offered_range, tells_range, has_pass, buffer_in, covers, recovers, with_page, with_page_if, with_data, with_data_if, tried_values, decided_values}
 
 -- What guards tell.
 
@@ -592,17 +592,20 @@ pub data Way (w : Part) : Part → Type 0 where
       → Way w (record w {
         writes = with_at w.writes n (done_in k l (start_in k (w.writes n)));
         stored = with_data w.stored l x.sector x.value;
+        values = tried_values w.values x;
       })
   -- the transfer failed: the leg may have the value
   misses : (n k l : ℕ) (x : LiveWrite) (left : Bool) → Trying w n k l x
       → Way w (record w {
         writes = with_at w.writes n (start_in k (w.writes n));
         stored = with_data_if left w.stored l x.sector x.value;
+        values = tried_values w.values x;
       })
   ends : (n k : ℕ) (x : LiveWrite) → Finishing w n k x
       → Way w (record w {
         writes = with_at w.writes n (without_write k (w.writes n));
         bitmap = with_at w.bitmap n (exited (w.bitmap n) (chunk_in w x.sector));
+        values = decided_values w.values x.sector x.value;
       })
   breaks : (n k : ℕ) (x : LiveWrite) → Ending w n k x
       → Way w (record w {
@@ -654,6 +657,7 @@ pub data Way (w : Part) : Part → Type 0 where
       → Way w (record w {
         copy = pass_with w n (λ q. settled_at w.geometry q b);
         bitmap = with_at w.bitmap n (need_met (w.bitmap n) (completes w.geometry b));
+        values = decided_values w.values b.sector b.value;
       })
   ends_pass : (n : ℕ) → EndsPass w n → Way w (record w { copy = with_at w.copy n no_copy })
 
