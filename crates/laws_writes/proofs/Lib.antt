@@ -18,6 +18,7 @@ pub mod UndecidedSteps
 pub mod Heirs
 pub mod KeeperSteps
 pub mod Settling
+pub mod SettledSteps
 pub mod NeedSteps
 pub mod MarkSteps
 pub mod CoverSteps
