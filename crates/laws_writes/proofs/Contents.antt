@@ -1,14 +1,13 @@
 -- What legs hold of live writes, and where a pass stands in its window.
-use Rattle.std.specs.Prelude.{◌≡◌, ℕ, ◌<◌, Bool, true, false, not, ◌&&◌, Option, Some, None, is_some}
+use Rattle.std.specs.Prelude.{◌≡◌, ℕ, ◌<◌, Bool, true, false, not, ◌&&◌, Option, Some, None}
 use Rattle.mdc_types.specs.Bits.{has_bit}
-use Rattle.mdc_types.specs.Geometry.{Sizes, chunk_of}
+use Rattle.mdc_types.specs.Geometry.{Sizes}
 use Rattle.mdc_types.specs.declared.numbers.Range.{Range}
 use Rattle.mirror_io.specs.Flight.{write_in, is_done}
 use Rattle.mirror_io.specs.declared.live.LiveWrite.{LiveWrite}
 use Rattle.resync_worker.specs.Copying.{Passing}
 use Rattle.resync_worker.specs.Sectors.{first_chunk_in, is_behind}
 use Rattle.resync_worker.specs.declared.buffer.Buffer.{Buffer}
-use Rattle.cluster_model.specs.State.{Copy}
 use Rattle.cluster_model.specs.Copying.{next_for}
 use Rattle.storage_ways.proofs.Parts.{Part, chunk_in, write_of, writes_at, has_started, done_there, reached_in, has_pass, covers}
 use Rattle.laws_writes.proofs.Ghosts.{Ghost, undecided, is_among}

@@ -1,6 +1,6 @@
 -- The ghosts of writes: functions of the opening and the run that name what answers for an open
 -- write.
-use Rattle.std.specs.Prelude.{ℕ, ◌==◌, Bool, true, false, not, ◌&&◌, ◌||◌, if◌then◌else◌, Option, Some, None, List, [], ◌∷◌, ◌++◌}
+use Rattle.std.specs.Prelude.{ℕ, ◌==◌, Bool, true, false, not, ◌&&◌, ◌||◌, if◌then◌else◌, List, [], ◌∷◌, ◌++◌}
 use Rattle.std.specs.Str.{bytes_eq}
 use Rattle.mdc_types.specs.declared.numbers.Sector.{Sector}
 use Rattle.mirror_io.specs.declared.live.LiveWrite.{LiveWrite}

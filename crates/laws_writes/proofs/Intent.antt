@@ -1,5 +1,5 @@
 -- The slot that answers for the open writes of a sector, and where its bit stands.
-use Rattle.std.specs.Prelude.{◌≡◌, ℕ, ◌+◌, ◌*◌, ◌<◌, Bool, true, false, ◌||◌, ◌&&◌, not}
+use Rattle.std.specs.Prelude.{◌≡◌, ℕ, ◌+◌, ◌*◌, ◌<◌, Bool, true, false, ◌||◌, ◌&&◌}
 use Rattle.mdc_types.specs.Geometry.{page_of, pages_of}
 use Rattle.cluster_model.specs.Gathering.{is_again_of}
 use Rattle.storage_ways.proofs.Parts.{Part, chunk_in, write_of, writes_at, has_started, todo, covers, recovers, found_in}

@@ -4,6 +4,11 @@ pub mod Windows
 pub mod Contents
 pub mod Pages
 pub mod Intent
+pub mod ListSteps
+pub mod RangeSteps
+pub mod FormSteps
+pub mod NoWriteSteps
+pub mod WindowSteps
 pub mod Recoverers
 pub mod PageSteps
 pub mod Places

@@ -1,5 +1,5 @@
 -- What an open recovery has read of its slot, and cleared there.
-use Rattle.std.specs.Prelude.{◌≡◌, ℕ, true, false, Option, None}
+use Rattle.std.specs.Prelude.{◌≡◌, ℕ, true, false, None}
 use Rattle.mdc_types.specs.Geometry.{page_of}
 use Rattle.storage_ways.proofs.Parts.{Part, recovers, found_in, read_in, cleared_in, is_heir}
 

@@ -1,9 +1,9 @@
 -- Windows: whoever copies in a window has told all others, and nobody writes there.
-use Rattle.std.specs.Prelude.{◌≡◌, ℕ, ◌<◌, ◌||◌, true, false, Option, Some, None, is_some}
+use Rattle.std.specs.Prelude.{◌≡◌, ℕ, ◌<◌, ◌||◌, true, false, Some, None, is_some}
 use Rattle.mdc_types.specs.declared.events.Wish.TheVariants as wishes
 use Rattle.mdc_types.specs.declared.numbers.Range.{Range}
 use Rattle.suspend_ranges.specs.Suspended.{suspends}
-use Rattle.cluster_model.specs.State.{Offer, Held}
+use Rattle.cluster_model.specs.State.{Offer}
 use Rattle.cluster_model.specs.Phases.{is_in, is_up, offers}
 use Rattle.cluster_model.specs.Wishes.{is_window}
 use Rattle.laws_roles.proofs.Parts.{is_loaded}
@@ -58,9 +58,6 @@ OwnForm w = (m : ℕ) (r : Range) → own w m ≡ Some r → is_window w.geometr
 abbrev pub OwnSome : Part → Type 0
 OwnSome w = (m : ℕ) (r : Range) → own w m ≡ Some r → r.lo < r.hi
 
-abbrev pub PassHeld : Part → Type 0
-PassHeld w = (n : ℕ) → has_pass (w.copy n) ≡ true → (w.copy n).turn ≡ Held
-
 abbrev pub WindowPass : Part → Type 0
 WindowPass w = (n : ℕ) → is_some (w.copy n).window ≡ true → has_pass (w.copy n) ≡ true
 
@@ -81,6 +78,5 @@ pub record Windows (w : Part) : Type 0 where
   pub range_form : RangeForm w
   pub own_form : OwnForm w
   pub own_some : OwnSome w
-  pub pass_held : PassHeld w
   pub window_pass : WindowPass w
   pub range_pass : RangePass w
