@@ -1,13 +1,18 @@
 -- What holds of bits, windows, contents, recoveries and intent at an opening.
-use Rattle.std.proofs.Common.{◌≡◌, ℕ, ◌<◌, ◌&&◌, ◌||◌, if◌then◌else◌, Bool, true, false, [], Option, Some, None, refl, sym, ap, subst, ◌∙◌, arith}
+use Rattle.std.proofs.Common.{◌≡◌, ℕ, ◌<◌, ◌==◌, ◌&&◌, ◌||◌, if◌then◌else◌, Bool, true, false, [], Option, Some, None, refl, sym, ap, subst, ◌∙◌, arith}
 use Rattle.std.specs.Prelude.{nat_lt}
 use Rattle.std.proofs.lemmas.Bool.Decides.{nat_tests}
 use Rattle.mdc_types.specs.Bits.{has_bit}
+use Rattle.dlm_modes.specs.declared.block.Block.{Block}
+use Rattle.dlm_modes.specs.declared.mode.Mode.TheVariants.{CR}
 use Rattle.dlm_space.specs.Locks.{zero_block}
-use Rattle.cluster_msgs.specs.Reading.{range_in}
+use Rattle.msg_rounds.specs.Locks.{ack_res}
+use Rattle.cluster_model.specs.Changes.{no_new_dev}
+use Rattle.cluster_msgs.specs.Ranges.{spelled_range}
+use Rattle.cluster_msgs.specs.Reading.{range_in, range_of}
 use Rattle.cluster_model.specs.State.{State, Legs}
 use Rattle.cluster_model.specs.Joining.{told_range}
-use Rattle.cluster_model.specs.Opening.{Origin, IsOrigin, core_at, is_member}
+use Rattle.cluster_model.specs.Opening.{Origin, core_at, held_by_members, bitmap_lock}
 use Rattle.cluster_model.specs.Contents.{SoundOpening}
 use Rattle.cluster_model.specs.Stored.{data_on}
 use Rattle.md_superblock.specs.Arrays.{Says}
@@ -24,11 +29,23 @@ use Rattle.laws_writes.proofs.FirstMarks.{first_marks}
 use Rattle.laws_writes.proofs.FirstKeepers.{first_ghost, first_keeper, first_values, first_bit, first_pending, keeper_out}
 
 zero_told : told_range (range_in zero_block.bytes) ≡ None
-unfolding zero_block range_in
+unfolding zero_block range_in range_of spelled_range
 zero_told = refl
 
 told_none : (o : Origin) (m : ℕ) → told_by (core_at o).locks m ≡ None
-told_none o m = ?
+told_none o m = by (nat_lt m 16 && ((core_at o).locks m).valid)
+  where
+    block : ((core_at o).locks m).block ≡ zero_block
+    block = at (m == ack_res) (m == no_new_dev)
+      where
+        at : (a b : Bool) → (if a then held_by_members o CR else if b then held_by_members o CR else bitmap_lock o m).block ≡ zero_block
+        at true b = refl
+        at false true = refl
+        at false false = refl
+
+    by : (b : Bool) → (if b then told_range (range_in ((core_at o).locks m).block.bytes) else None) ≡ None
+    by true = ap (λ (x : Block). told_range (range_in x.bytes)) block ∙ zero_told
+    by false = refl
 
 module _ (o : Origin) (start : State) (sound : SoundOpening o start) (sup : ℕ → Option Says) (home : ℕ) where
   abbrev pub First : Part
@@ -61,7 +78,6 @@ module _ (o : Origin) (start : State) (sound : SoundOpening o start) (sup : ℕ 
     range_form = λ n r x e f. cc;
     own_form = λ m r e. cc;
     own_some = λ m r e. cc;
-    pass_held = λ n e. cc;
     window_pass = λ n e. cc;
     range_pass = λ n e. cc;
   }
