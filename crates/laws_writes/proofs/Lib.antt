@@ -23,3 +23,4 @@ pub mod AgainSteps
 pub mod FirstMarks
 pub mod FirstKeepers
 pub mod First
+pub mod Values
