@@ -14,3 +14,4 @@ pub mod GrantRows
 pub mod ComingRows
 pub mod GoingRows
 pub mod OfferRows
+pub mod RoundRows
