@@ -15,3 +15,4 @@ pub mod ComingRows
 pub mod GoingRows
 pub mod OfferRows
 pub mod RoundRows
+pub mod ReceivingRows

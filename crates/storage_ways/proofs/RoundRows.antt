@@ -69,12 +69,11 @@ published_has s e = grind arith
 
 -- Bodies of messages.
 
-is_ranging : Body → Bool
+abbrev pub is_ranging : Body → Bool
 is_ranging (bodies.Resyncing r) = true
 is_ranging b = false
 
-ranging_body : (core : Core) (o : Offer) (w : Wish) → is_ranging (body_of core o w) ≡ is_range w
-unfolding is_ranging
+pub ranging_body : (core : Core) (o : Offer) (w : Wish) → is_ranging (body_of core o w) ≡ is_range w
 ranging_body core o wishes.Meta = refl
 ranging_body core o (wishes.Spare l) = refl
 ranging_body core o (wishes.Rebuild l) = refl
@@ -86,7 +85,7 @@ ranging_body core o (wishes.ReAdd l) = refl
 ranging_body core o wishes.Unclean = refl
 ranging_body core o (wishes.Grow z) = refl
 
-range_wish : (core : Core) (o : Offer) (w : Wish) (r : Range) → body_of core o w ≡ bodies.Resyncing r → w ≡ wishes.Range r
+pub range_wish : (core : Core) (o : Offer) (w : Wish) (r : Range) → body_of core o w ≡ bodies.Resyncing r → w ≡ wishes.Range r
 range_wish core o wishes.Meta r e = cc
 range_wish core o (wishes.Spare l) r e = cc
 range_wish core o (wishes.Rebuild l) r e = cc
@@ -110,10 +109,10 @@ not_other : (b : Bool) → not b ≡ true → b ≡ false
 not_other b e = grind arith
 
 module _ (core : Core) (a : Around) (p : Place core a) where
-  its_offer : (n : ℕ) → stands (core.sender n) ≡ true → Standing (core.state n) (core.offer n)
+  pub its_offer : (n : ℕ) → stands (core.sender n) ≡ true → Standing (core.state n) (core.offer n)
   its_offer n up = standing (core.state n) (core.sender n) (core.offer n) (p.known.rounded.offering.offers n) up
 
-  none_within : (n lo hi : ℕ) → write_within lo hi (core.writes n) ≡ None → NoneWithin (here core a) n lo hi
+  pub none_within : (n lo hi : ℕ) → write_within lo hi (core.writes n) ≡ None → NoneWithin (here core a) n lo hi
   none_within n lo hi none k x found = write_within-none lo hi k (core.writes n) x none found
 
   -- who offers something else than `meta` is up
