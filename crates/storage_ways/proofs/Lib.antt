@@ -16,3 +16,4 @@ pub mod GoingRows
 pub mod OfferRows
 pub mod RoundRows
 pub mod ReceivingRows
+pub mod FinishRows
