@@ -77,6 +77,10 @@ BrokeNeed w g = (n s : ℕ) → g.broke n s ≡ true → (w.bitmap n).need (chun
 abbrev pub BrokeUndecided : Part → Ghost → Type 0
 BrokeUndecided w g = (n s : ℕ) → g.broke n s ≡ true → undecided g s ≡ true
 
+-- sectors past the room have no two values
+abbrev pub UndecidedWithin : Part → Ghost → Type 0
+UndecidedWithin w g = (s : ℕ) → undecided g s ≡ true → s < w.geometry.room
+
 pub record Contents (w : Part) (g : Ghost) : Type 0 where
   pub buffer_place : BufferPlace w
   pub reached_place : ReachedPlace w
@@ -90,3 +94,4 @@ pub record Contents (w : Part) (g : Ghost) : Type 0 where
   pub broke_live : BrokeLive w g
   pub broke_need : BrokeNeed w g
   pub broke_undecided : BrokeUndecided w g
+  pub undecided_within : UndecidedWithin w g

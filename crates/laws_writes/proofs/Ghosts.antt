@@ -66,7 +66,7 @@ without_node g n = record g { broke = λ m s. if m == n then false else g.broke 
 abbrev pub with_heir : Ghost → ℕ → ℕ → Ghost
 with_heir g n d = record g { keeper = λ s. if g.keeper s == d then n else g.keeper s }
 
-pub ghost_after : {w v : Part} → Way w v → Ghost → Ghost
+abbrev pub ghost_after : {w v : Part} → Way w v → Ghost → Ghost
 ghost_after (ways.outs n k l x t) g = with_try g n k x
 ghost_after (ways.misses n k l x left t) g = with_try g n k x
 ghost_after (ways.ends n k x e) g = with_value g x.sector x.value

@@ -4,3 +4,14 @@ pub mod Windows
 pub mod Contents
 pub mod Pages
 pub mod Intent
+pub mod Recoverers
+pub mod PageSteps
+pub mod Places
+pub mod UndecidedSteps
+pub mod Heirs
+pub mod KeeperSteps
+pub mod Settling
+pub mod NeedSteps
+pub mod MarkSteps
+pub mod CoverSteps
+pub mod AgainSteps

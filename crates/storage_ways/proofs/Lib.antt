@@ -12,6 +12,8 @@ pub mod CopyRows
 pub mod RecoveryRows
 pub mod GrantRows
 pub mod ComingRows
+pub mod KeptWrites
+pub mod Flying
 pub mod GoingRows
 pub mod OfferRows
 pub mod RoundRows

@@ -31,7 +31,7 @@ use Rattle.storage_ways.proofs.Ways.{Way, Acked, Finds, Asking, Trying, Ending, 
 
 -- Writes in flight.
 
-no_number : (lo hi k : ℕ) (ws : List LiveWrite) → WritesRise lo hi ws → hi ≤ k → write_in k ws ≡ None
+pub no_number : (lo hi k : ℕ) (ws : List LiveWrite) → WritesRise lo hi ws → hi ≤ k → write_in k ws ≡ None
 no_number lo hi k [] r le = refl
 no_number lo hi k (w ∷ ws) r le = other (w.number == k) (not_same w.number k (omega (arith, r.1, le))) (no_number (w.number + 1) hi k ws r.2 le)
   where
