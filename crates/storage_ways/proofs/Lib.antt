@@ -19,3 +19,5 @@ pub mod OfferRows
 pub mod RoundRows
 pub mod ReceivingRows
 pub mod FinishRows
+pub mod Between
+pub mod Voided
