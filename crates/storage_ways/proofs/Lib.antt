@@ -21,3 +21,5 @@ pub mod ReceivingRows
 pub mod FinishRows
 pub mod Between
 pub mod Voided
+pub mod Failing
+pub mod Moving
