@@ -23,3 +23,4 @@ pub mod Between
 pub mod Voided
 pub mod Failing
 pub mod Moving
+pub mod QuietSteps
