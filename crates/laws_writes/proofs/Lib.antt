@@ -24,3 +24,4 @@ pub mod FirstMarks
 pub mod FirstKeepers
 pub mod First
 pub mod Values
+pub mod InState
