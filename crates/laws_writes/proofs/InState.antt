@@ -38,7 +38,7 @@ use Rattle.laws_writes.proofs.Contents.{Contents}
 use Rattle.laws_writes.proofs.Intent.{Intents}
 use Rattle.laws_writes.proofs.Values.{two_open}
 
-found_there : (x : Option LiveWrite) (w : LiveWrite) → x ≡ Some w → writes_at x w.sector ≡ true
+pub found_there : (x : Option LiveWrite) (w : LiveWrite) → x ≡ Some w → writes_at x w.sector ≡ true
 found_there x w e = ap (λ y. writes_at y w.sector) e ∙ same w.sector
   where
     same : (s : ℕ) → (s == s) ≡ true
@@ -65,7 +65,7 @@ some_buffer state n e = by (state.core.copy n).pass e
     by (Some p) e = refl
 
 -- of a range that isn't empty its entry holds what it holds
-entry_holds : (r : Range) (s : ℕ) → suspends s (entry_of r) ≡ false → holds r.lo r.hi s ≡ false
+pub entry_holds : (r : Range) (s : ℕ) → suspends s (entry_of r) ≡ false → holds r.lo r.hi s ≡ false
 entry_holds r s e = by (nat_lt r.lo r.hi) refl e
   where
     by : (b : Bool) → nat_lt r.lo r.hi ≡ b → suspends s (if b then Some r else None) ≡ false → holds r.lo r.hi s ≡ false

@@ -25,3 +25,4 @@ pub mod FirstKeepers
 pub mod First
 pub mod Values
 pub mod InState
+pub mod Closed
