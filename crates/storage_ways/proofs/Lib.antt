@@ -24,3 +24,4 @@ pub mod Voided
 pub mod Failing
 pub mod Moving
 pub mod QuietSteps
+pub mod ReadSteps
