@@ -25,3 +25,4 @@ pub mod Failing
 pub mod Moving
 pub mod QuietSteps
 pub mod ReadSteps
+pub mod WriteSteps
