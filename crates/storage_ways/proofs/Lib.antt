@@ -24,3 +24,5 @@ pub mod Voided
 pub mod Failing
 pub mod Moving
 pub mod QuietSteps
+pub mod ReadSteps
+pub mod WriteSteps
