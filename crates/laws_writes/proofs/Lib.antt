@@ -20,3 +20,6 @@ pub mod NeedSteps
 pub mod MarkSteps
 pub mod CoverSteps
 pub mod AgainSteps
+pub mod Flights
+pub mod WriterSteps
+pub mod BitSteps
