@@ -26,3 +26,6 @@ pub mod First
 pub mod Values
 pub mod InState
 pub mod Closed
+pub mod Flights
+pub mod WriterSteps
+pub mod BitSteps
