@@ -29,3 +29,4 @@ pub mod Closed
 pub mod Flights
 pub mod WriterSteps
 pub mod BitSteps
+pub mod Kept
