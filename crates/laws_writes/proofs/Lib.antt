@@ -30,3 +30,4 @@ pub mod Flights
 pub mod WriterSteps
 pub mod BitSteps
 pub mod Kept
+pub mod Legal
