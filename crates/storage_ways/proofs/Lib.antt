@@ -26,3 +26,5 @@ pub mod Moving
 pub mod QuietSteps
 pub mod ReadSteps
 pub mod WriteSteps
+pub mod SuperSteps
+pub mod Steps
