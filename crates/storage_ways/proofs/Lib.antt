@@ -28,3 +28,5 @@ pub mod ReadSteps
 pub mod WriteSteps
 pub mod SuperSteps
 pub mod Steps
+pub mod KeptSteps
+pub mod Runs
