@@ -26,3 +26,7 @@ pub mod Moving
 pub mod QuietSteps
 pub mod ReadSteps
 pub mod WriteSteps
+pub mod SuperSteps
+pub mod Steps
+pub mod KeptSteps
+pub mod Runs
