@@ -23,3 +23,14 @@ pub mod NeedSteps
 pub mod MarkSteps
 pub mod CoverSteps
 pub mod AgainSteps
+pub mod FirstMarks
+pub mod FirstKeepers
+pub mod First
+pub mod Values
+pub mod InState
+pub mod Closed
+pub mod Flights
+pub mod WriterSteps
+pub mod BitSteps
+pub mod Kept
+pub mod Legal
