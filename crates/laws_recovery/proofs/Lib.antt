@@ -18,3 +18,4 @@ pub mod CoveredSteps
 pub mod CoveredGoodSteps
 pub mod CoveredFreshSteps
 pub mod Step
+pub mod InState
