@@ -19,3 +19,4 @@ pub mod CoveredGoodSteps
 pub mod CoveredFreshSteps
 pub mod Step
 pub mod InState
+pub mod FirstStale
