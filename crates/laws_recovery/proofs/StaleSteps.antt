@@ -22,7 +22,7 @@ use Rattle.storage_ways.proofs.Ways as ways
 use Rattle.storage_ways.proofs.Ways.{Way, Offering, Fills}
 use Rattle.laws_roles.proofs.Parts.{promotes}
 use Rattle.laws_writes.proofs.Ghosts.{Ghost, ghost_after, is_among}
-use Rattle.laws_writes.proofs.Races.{next_free}
+use Rattle.laws_writes.proofs.FreeSectors.{next_free}
 use Rattle.laws_writes.proofs.Settled.{Since}
 use Rattle.laws_recovery.proofs.Ghosts.{Hold}
 use Rattle.laws_recovery.proofs.Known.{Known}
