@@ -23,3 +23,5 @@ pub mod AgainSteps
 pub mod Flights
 pub mod WriterSteps
 pub mod BitSteps
+pub mod Chunks
+pub mod Races
