@@ -25,3 +25,5 @@ pub mod WriterSteps
 pub mod BitSteps
 pub mod Chunks
 pub mod Races
+pub mod Moves
+pub mod PlaceSteps
