@@ -27,3 +27,4 @@ pub mod Chunks
 pub mod Races
 pub mod Moves
 pub mod PlaceSteps
+pub mod Behind
