@@ -81,19 +81,19 @@ covered_was w v x sound win a l s h e =
 
 -- Nothing happens where something was settled.
 
-data_kept : (stored : ℕ → ℕ → Sector) (l t : ℕ) (v : Sector) (j s : ℕ) → (s == t) ≡ false → with_data stored l t v j s ≡ stored j s
+pub data_kept : (stored : ℕ → ℕ → Sector) (l t : ℕ) (v : Sector) (j s : ℕ) → (s == t) ≡ false → with_data stored l t v j s ≡ stored j s
 data_kept stored l t v j s other = by (j == l) (s == t) other
   where
     by : (a b : Bool) → b ≡ false → (if a && b then v else stored j s) ≡ stored j s
     by a b e = grind arith
 
-data_kept_if : (left : Bool) (stored : ℕ → ℕ → Sector) (l t : ℕ) (v : Sector) (j s : ℕ) → (s == t) ≡ false → with_data_if left stored l t v j s ≡ stored j s
+pub data_kept_if : (left : Bool) (stored : ℕ → ℕ → Sector) (l t : ℕ) (v : Sector) (j s : ℕ) → (s == t) ≡ false → with_data_if left stored l t v j s ≡ stored j s
 data_kept_if left stored l t v j s other = by left (j == l) (s == t) other
   where
     by : (c a b : Bool) → b ≡ false → (if c && a && b then v else stored j s) ≡ stored j s
     by c a b e = grind arith
 
-differs : (s t : ℕ) → ((s ≡ t) → ⊥) → (s == t) ≡ false
+pub differs : (s t : ℕ) → ((s ≡ t) → ⊥) → (s == t) ≡ false
 differs s t apart = by (s == t) refl
   where
     by : (b : Bool) → (s == t) ≡ b → b ≡ false
@@ -105,7 +105,7 @@ module _ (w : Part) (g : Ghost) (sound : Sound w) (win : Windows w) (con : Conte
   pub no_write_here : (a s n k : ℕ) (x : LiveWrite) → is_settled w a s ≡ true → write_of w n k ≡ Some x → (s == x.sector) ≡ false
   no_write_here a s n k x e is = differs s x.sector (λ same. no_write_settled w g sound win con a n k s e (subst (λ t. writes_at (write_of w n k) t ≡ true) (sym same) (write_there w n k x is)))
 
-  one_copier : (a n : ℕ) → has_pass (w.copy a) ≡ true → has_pass (w.copy n) ≡ true → a ≡ n
+  pub one_copier : (a n : ℕ) → has_pass (w.copy a) ≡ true → has_pass (w.copy n) ≡ true → a ≡ n
   one_copier a n h e = sound.turns.one a n (sound.turns.pass a h) (sound.turns.pass n e)
 
   pub no_buffer_here : (a s n : ℕ) (p : Passing) (b : Buffer) → is_settled w a s ≡ true → Buffers w n p b → (s == b.sector) ≡ false

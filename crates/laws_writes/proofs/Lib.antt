@@ -28,3 +28,4 @@ pub mod Races
 pub mod Moves
 pub mod PlaceSteps
 pub mod Behind
+pub mod CopySteps
