@@ -34,3 +34,9 @@ pub mod WriterSteps
 pub mod BitSteps
 pub mod Kept
 pub mod Legal
+pub mod Chunks
+pub mod Races
+pub mod Moves
+pub mod PlaceSteps
+pub mod Behind
+pub mod CopySteps
