@@ -20,3 +20,5 @@ pub mod CoveredFreshSteps
 pub mod Step
 pub mod InState
 pub mod FirstStale
+pub mod KeptReads
+pub mod Asked
