@@ -31,3 +31,6 @@ pub mod WriterSteps
 pub mod BitSteps
 pub mod Kept
 pub mod Legal
+pub mod Written
+pub mod Runs
+pub mod Promises
