@@ -55,7 +55,7 @@ module _ (state : State) (rg : roles.Ghost) (values : ℕ → List Sector) (p : 
       let leg : ℕ = unwrap_or (first_such (λ l. is_working (role_of says.roles l)) 0 8) 0 in
       (leg, p.roles.super_good rg.home leg (subst (λ x. state.core.members.completed ≤ number x) (sym is) new) (ap (λ x. is_working (said_role x leg)) is ∙ found.0))
 
-  some_good : (l : ℕ) × (rg.good l ≡ true)
+  pub some_good : (l : ℕ) × (rg.good l ≡ true)
   some_good = home_good (super_on state.core.array state.legs rg.home) refl p.numbers.home_current
 
   pub intent_holds : (g : Ghost) → Intents W g → ValuesAre W g → Intent state values

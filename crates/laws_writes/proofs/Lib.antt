@@ -34,3 +34,7 @@ pub mod Legal
 pub mod Written
 pub mod Runs
 pub mod Promises
+pub mod Chunks
+pub mod Races
+pub mod Moves
+pub mod PlaceSteps
