@@ -38,7 +38,7 @@ use Rattle.node_bitmaps.specs.Bitmap.{with_new_legs}
 use Rattle.laws_roles.proofs.FinishRows.{others_none}
 use Rattle.laws_roles.proofs.Parts as roles
 use Rattle.laws_roles.proofs.Parts.{is_loaded, source_of, with_source}
-use Rattle.storage_ways.proofs.Parts.{Part, told_by}
+use Rattle.storage_ways.proofs.Parts.{Part, told_by, joined_there}
 use Rattle.storage_ways.proofs.Place.{Around, here, roles_here, Place, sound_of}
 use Rattle.storage_ways.proofs.Blocks.{retold, told_high, told_kept}
 use Rattle.storage_ways.proofs.GrantRows.{held_is}
@@ -99,13 +99,13 @@ module _ (core : Core) (a : Around) (p : Place core a) where
       by false e = in_not_loaded (core.state m) inside e
       by true e = absurd (ne (p.known.rounded.phased.alone m n (p.known.rounded.phased.loaded m (loaded_state (core.state m) e)) has))
 
-  pub join_way : (n : ℕ) → first_of (join_guards core n) ≡ None → Way (here core a) (here (join core n) a)
+  pub join_way : (n : ℕ) → first_of (join_guards core n) ≡ None → Way (here core a) (here (join core n) (record a { broken = joined_there a.broken n }))
   join_way n ok =
       let g = (all_none (join_guards core n) ok).1.1 in
       let free = unless_none (not (core.members.live n)) (SlotLive n) g.0 in
       let out = out_is (core.state n) (core.members.live n) (p.known.rounded.numbered.live n) free in
       let idle = p.known.rounded.phased.out n out in
-      retold (here core a) (join core n) a _
+      retold (here core a) (join core n) (record a { broken = joined_there a.broken n }) _
       (told_high (with_at core.locks n (holding (core.locks n) n PW)) token_res (asked (with_at core.locks n (holding (core.locks n) n PW) token_res) n EX) (omega arith) ∙ told_kept core.locks n (holding (core.locks n) n PW) refl)
       (joins n (record {
         out = out;

@@ -62,6 +62,9 @@ pub record Part : Type 0 where
   pub ghost : roles.Ghost
   -- by sector: the values that a read may give, by the plain history
   pub values : ℕ → List Sector
+  -- by node and sector: a started write of the node there was broken, nothing was decided there since,
+  -- and the node hasn't joined anew
+  pub broken : ℕ → ℕ → Bool
 
 abbrev pub told_by : (ℕ → Lock) → ℕ → Option Range
 told_by locks m =
@@ -71,8 +74,8 @@ told_by locks m =
 abbrev pub bits_on : Sizes → Legs → ℕ → ℕ → ℕ → Bool
 bits_on g legs k c l = nat_lt k (nodes_of g) && bit_on g legs k c l
 
-abbrev pub part_of : Core → (ℕ → Option Says) → (ℕ → ℕ → ℕ → Bool) → (ℕ → ℕ → Sector) → roles.Ghost → (ℕ → List Sector) → Part
-part_of core super bit stored ghost values = record {
+abbrev pub part_of : Core → (ℕ → Option Says) → (ℕ → ℕ → ℕ → Bool) → (ℕ → ℕ → Sector) → roles.Ghost → (ℕ → List Sector) → (ℕ → ℕ → Bool) → Part
+part_of core super bit stored ghost values broken = record {
   geometry = core.array.sizes;
   state = core.state;
   view = core.view;
@@ -98,6 +101,7 @@ part_of core super bit stored ghost values = record {
   stored = stored;
   ghost = ghost;
   values = values;
+  broken = broken;
 }
 
 -- of this part, what says who may be read
@@ -242,3 +246,13 @@ tried_values values x s = if (x.sector == s) && not x.started then values s ++ x
 
 abbrev pub decided_values : (ℕ → List Sector) → ℕ → Sector → ℕ → List Sector
 decided_values values t v s = if t == s then v ∷ [] else values s
+
+-- where writes were broken: one more, one decided, and a node that joins
+abbrev pub broken_there : (ℕ → ℕ → Bool) → ℕ → LiveWrite → ℕ → ℕ → Bool
+broken_there broken n x m s = if x.started && (m == n) && (x.sector == s) then true else broken m s
+
+abbrev pub decided_there : (ℕ → ℕ → Bool) → ℕ → ℕ → ℕ → Bool
+decided_there broken t m s = if t == s then false else broken m s
+
+abbrev pub joined_there : (ℕ → ℕ → Bool) → ℕ → ℕ → ℕ → Bool
+joined_there broken n m s = if m == n then false else broken m s

@@ -41,9 +41,10 @@ pub record Around : Type 0 where
   pub stored : ℕ → ℕ → Sector
   pub ghost : roles.Ghost
   pub values : ℕ → List Sector
+  pub broken : ℕ → ℕ → Bool
 
 abbrev pub here : Core → Around → Part
-here core a = part_of core a.super a.bit a.stored a.ghost a.values
+here core a = part_of core a.super a.bit a.stored a.ghost a.values a.broken
 
 -- what roles keep of the same
 abbrev pub roles_here : Core → Around → roles.Part

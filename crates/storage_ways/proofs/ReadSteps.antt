@@ -28,7 +28,7 @@ use Rattle.laws_roles.proofs.OtherRows.{is_failed}
 use Rattle.laws_roles.proofs.Parts as roles
 use Rattle.storage_ways.proofs.Parts.{Part}
 use Rattle.storage_ways.proofs.Place.{Around, here, Place, sound_of}
-use Rattle.storage_ways.proofs.Moving.{around, next, Reads, reads, fails, reads_of, done_when, moved}
+use Rattle.storage_ways.proofs.Moving.{Traced, around, next, Reads, reads, fails, reads_of, done_when, moved}
 use Rattle.storage_ways.proofs.Standing.{page_stands}
 use Rattle.storage_ways.proofs.ComingRows.{load_way}
 use Rattle.storage_ways.proofs.CopyRows.{PageDue, page_due, gather_way, SectorDue, sector_due, fill_way}
@@ -56,7 +56,7 @@ some_not_none t v e f = cc
 slot_below : (n all nodes pages : ℕ) → n < nodes * pages → n / pages < nodes
 slot_below n all nodes pages lt = grind arith
 
-module _ (old : State) (g : roles.Ghost) (vs : ℕ → List Sector) (p : Place old.core (around old.core old.legs g vs)) (told : (j : ℕ) → j < (sizes old.core).legs → old.legs.told j ≡ true) where
+module _ (old : State) (g : roles.Ghost) (vs : Traced) (p : Place old.core (around old.core old.legs g vs)) (told : (j : ℕ) → j < (sizes old.core).legs → old.legs.told j ≡ true) where
   abbrev pub A : Around
   A = around old.core old.legs g vs
 

@@ -40,7 +40,7 @@ use Rattle.storage_ways.proofs.Sound.{Sound}
 use Rattle.storage_ways.proofs.ComingRows.{silent_by}
 use Rattle.storage_ways.proofs.Failing.{append, failed_ways, unreached_ways}
 use Rattle.storage_ways.proofs.Guarding.{below_legs}
-use Rattle.storage_ways.proofs.Moving.{around, next, Puts, well, ill, left, puts_of, moved, standing_so}
+use Rattle.storage_ways.proofs.Moving.{Traced, around, next, Puts, well, ill, left, puts_of, moved, standing_so}
 use Rattle.storage_ways.proofs.RoundRows.{its_offer}
 use Rattle.storage_ways.proofs.Standing.{bits_stay, data_stays}
 use Rattle.storage_ways.proofs.Voided.{super_sound}
@@ -63,7 +63,7 @@ past_super g = by g.second
     by true = omega arith
     by false = omega arith
 
-module _ (old : State) (g : roles.Ghost) (vs : ℕ → List Sector) (p : Place old.core (around old.core old.legs g vs)) (bytes : Bytes old.core.array) (told : (j : ℕ) → j < (sizes old.core).legs → old.legs.told j ≡ true) where
+module _ (old : State) (g : roles.Ghost) (vs : Traced) (p : Place old.core (around old.core old.legs g vs)) (bytes : Bytes old.core.array) (told : (j : ℕ) → j < (sizes old.core).legs → old.legs.told j ≡ true) where
   abbrev pub A : Around
   A = around old.core old.legs g vs
 

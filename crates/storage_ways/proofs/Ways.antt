@@ -47,7 +47,7 @@ use Rattle.laws_locks.specs.Rounded.{has_token}
 use Rattle.laws_roles.proofs.Parts as roles
 use Rattle.laws_roles.proofs.Parts.{changes_super, offered_role, heard_role, promotes, needs_known, with_finish, with_source, with_wish}
 use Rattle.storage_ways.proofs.Sound.{Sound}
-use Rattle.storage_ways.proofs.Parts.{Part, chunk_in, is_range, offered_range, tells_range, has_pass, buffer_in, covers, recovers, with_page, with_page_if, with_data, with_data_if, tried_values, decided_values}
+use Rattle.storage_ways.proofs.Parts.{Part, chunk_in, is_range, offered_range, tells_range, has_pass, buffer_in, covers, recovers, with_page, with_page_if, with_data, with_data_if, tried_values, decided_values, broken_there, decided_there, joined_there}
 
 -- What guards tell.
 
@@ -503,6 +503,7 @@ pub data Way (w : Part) : Part → Type 0 where
         state = with_at w.state n states.Joining;
         live = with_at w.live n true;
         sender = with_at w.sender n senders.TokenAsked;
+        broken = joined_there w.broken n;
       })
   comes : (n k : ℕ) (says : Says) (lost : ℕ → Bool) (ranges : ℕ → Option Range) → Coming w n k says ranges
       → Way w (record w {
@@ -606,11 +607,13 @@ pub data Way (w : Part) : Part → Type 0 where
         writes = with_at w.writes n (without_write k (w.writes n));
         bitmap = with_at w.bitmap n (exited (w.bitmap n) (chunk_in w x.sector));
         values = decided_values w.values x.sector x.value;
+        broken = decided_there w.broken x.sector;
       })
   breaks : (n k : ℕ) (x : LiveWrite) → Ending w n k x
       → Way w (record w {
         writes = with_at w.writes n (without_write k (w.writes n));
         bitmap = with_at w.bitmap n (with_need (exited (w.bitmap n) (chunk_in w x.sector)) (chunk_in w x.sector) true);
+        broken = broken_there w.broken n x;
       })
 
   -- Bitmaps.
@@ -658,6 +661,7 @@ pub data Way (w : Part) : Part → Type 0 where
         copy = pass_with w n (λ q. settled_at w.geometry q b);
         bitmap = with_at w.bitmap n (need_met (w.bitmap n) (completes w.geometry b));
         values = decided_values w.values b.sector b.value;
+        broken = decided_there w.broken b.sector;
       })
   ends_pass : (n : ℕ) → EndsPass w n → Way w (record w { copy = with_at w.copy n no_copy })
 
