@@ -13,7 +13,6 @@ pub mod RecoveryRows
 pub mod GrantRows
 pub mod ComingRows
 pub mod KeptWrites
-pub mod Broken
 pub mod Flying
 pub mod GoingRows
 pub mod OfferRows

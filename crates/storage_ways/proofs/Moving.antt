@@ -24,7 +24,7 @@ use Rattle.cluster_model.specs.Transfers.{Transfer, transfer_of}
 use Rattle.laws_roles.proofs.OtherRows.{is_failed}
 use Rattle.laws_roles.proofs.Parts as roles
 use Rattle.laws_roles.proofs.Parts.{supers, ghost_after}
-use Rattle.storage_ways.proofs.Broken.{broken_step}
+use Rattle.storage_ways.specs.Broken.{broken_step}
 use Rattle.storage_ways.proofs.Flying.{flying}
 use Rattle.storage_ways.proofs.Parts.{Part, bits_on}
 use Rattle.storage_ways.proofs.Place.{Around, here}

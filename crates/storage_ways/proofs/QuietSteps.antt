@@ -18,7 +18,7 @@ use Rattle.cluster_model.specs.Table.{refusal}
 use Rattle.cluster_model.specs.Transfers.{transfer_of}
 use Rattle.cluster_model.specs.Writes.{end_write, break_write}
 use Rattle.laws_roles.proofs.Parts as roles
-use Rattle.storage_ways.proofs.Broken.{broken_by, decided_by, broken_step}
+use Rattle.storage_ways.specs.Broken.{broken_by, decided_by, broken_step}
 use Rattle.storage_ways.proofs.Flying.{flying, plain_of}
 use Rattle.storage_ways.proofs.Parts.{Part, decided_values, decided_there}
 use Rattle.storage_ways.proofs.Place.{Around, here, Place, sound_of}

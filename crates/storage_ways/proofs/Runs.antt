@@ -24,7 +24,7 @@ use Rattle.laws_roles.proofs.Parts.{supers, ghost_after, ghost_in}
 use Rattle.laws_roles.proofs.Runs as role_runs
 use Rattle.laws_roles.proofs.Runs.{array_is, holds}
 use Rattle.laws_roles.proofs.Standing.{Bytes}
-use Rattle.storage_ways.proofs.Broken.{broken_in}
+use Rattle.storage_ways.specs.Broken.{broken_in}
 use Rattle.storage_ways.proofs.Flying.{flying, live_are}
 use Rattle.storage_ways.proofs.KeptSteps.{Kept, kept_ways}
 use Rattle.storage_ways.proofs.Moving.{Traced, traced, around, next}

@@ -27,7 +27,7 @@ use Rattle.cluster_model.specs.Writes.{start_write, out_done, write_ended}
 use Rattle.laws_roles.proofs.Parts as roles
 use Rattle.laws_roles.proofs.Parts.{supers}
 use Rattle.laws_roles.proofs.Standing.{others_stand}
-use Rattle.storage_ways.proofs.Broken.{tried_by}
+use Rattle.storage_ways.specs.Broken.{tried_by}
 use Rattle.storage_ways.proofs.Flying.{flying, plain_of}
 use Rattle.storage_ways.proofs.Parts.{Part, bits_on, with_page, with_page_if, with_data, with_data_if, tried_values}
 use Rattle.storage_ways.proofs.Place.{Around, here, Place, sound_of}
