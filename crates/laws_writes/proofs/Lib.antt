@@ -38,3 +38,5 @@ pub mod Chunks
 pub mod Races
 pub mod Moves
 pub mod PlaceSteps
+pub mod Behind
+pub mod CopySteps
