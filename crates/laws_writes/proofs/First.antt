@@ -1,8 +1,9 @@
 -- What holds of bits, windows, contents, recoveries and intent at an opening.
-use Rattle.std.proofs.Common.{◌≡◌, ℕ, ◌<◌, ◌==◌, ◌&&◌, ◌||◌, if◌then◌else◌, Bool, true, false, [], Option, Some, None, refl, sym, ap, subst, ◌∙◌, arith}
+use Rattle.std.proofs.Common.{◌≡◌, ℕ, ◌<◌, ◌==◌, ◌&&◌, ◌||◌, if◌then◌else◌, Bool, true, false, [], ◌∷◌, Option, Some, None, refl, sym, ap, subst, ◌∙◌, arith}
 use Rattle.std.specs.Prelude.{nat_lt}
 use Rattle.std.proofs.lemmas.Bool.Decides.{nat_tests}
 use Rattle.mdc_types.specs.Bits.{has_bit}
+use Rattle.mdc_types.specs.Sectors.{zero_sector}
 use Rattle.dlm_modes.specs.declared.block.Block.{Block}
 use Rattle.dlm_modes.specs.declared.mode.Mode.TheVariants.{CR}
 use Rattle.dlm_space.specs.Locks.{zero_block}
@@ -26,7 +27,7 @@ use Rattle.laws_writes.proofs.Contents.{Contents}
 use Rattle.laws_writes.proofs.Pages.{Pages}
 use Rattle.laws_writes.proofs.Intent.{Intents}
 use Rattle.laws_writes.proofs.FirstMarks.{first_marks}
-use Rattle.laws_writes.proofs.FirstKeepers.{first_ghost, first_keeper, first_values, first_bit, first_pending, keeper_out}
+use Rattle.laws_writes.proofs.FirstKeepers.{first_ghost, first_keeper, first_values, first_some, first_bit, first_pending, keeper_out}
 
 zero_told : told_range (range_in zero_block.bytes) ≡ None
 unfolding zero_block range_in range_of spelled_range
@@ -49,7 +50,7 @@ told_none o m = by (nat_lt m 16 && ((core_at o).locks m).valid)
 
 module _ (o : Origin) (start : State) (sound : SoundOpening o start) (sup : ℕ → Option Says) (home : ℕ) where
   abbrev pub First : Part
-  First = part_of (core_at o) sup (bits_on o.sizes start.legs) (data_on o.sizes start.legs) (ghost_at o home) (values_at o.base)
+  First = part_of (core_at o) sup (bits_on o.sizes start.legs) (data_on o.sizes start.legs) (ghost_at o home) (values_at o.base) (λ n s. false)
 
   abbrev ghost : Ghost
   ghost = first_ghost o start.legs
@@ -85,7 +86,7 @@ module _ (o : Origin) (start : State) (sound : SoundOpening o start) (sup : ℕ 
   within : (s : ℕ) → is_open (first_values o s) ≡ true → s < o.sizes.room
   within s e = by (nat_lt s o.sizes.room) refl e
     where
-      by : (b : Bool) → nat_lt s o.sizes.room ≡ b → is_open (if b then values_at o.base s else []) ≡ true → s < o.sizes.room
+      by : (b : Bool) → nat_lt s o.sizes.room ≡ b → is_open (if b then values_at o.base s else zero_sector ∷ []) ≡ true → s < o.sizes.room
       by true t e = grind (arith, nat_tests)
       by false t e = cc
 
@@ -93,6 +94,7 @@ module _ (o : Origin) (start : State) (sound : SoundOpening o start) (sup : ℕ 
   first_contents = record {
     buffer_place = λ n p b e f. cc;
     reached_place = λ n lt. absurd (omega arith);
+    reached_within = λ n lt. absurd (omega arith);
     settled_decided = λ n s e. cc;
     buffer_done = λ n l p b e f g. cc;
     done_holds = λ n k l x e f. cc;
@@ -104,6 +106,7 @@ module _ (o : Origin) (start : State) (sound : SoundOpening o start) (sup : ℕ 
     broke_need = λ n s e. cc;
     broke_undecided = λ n s e. cc;
     undecided_within = λ s e. within s e;
+    some_value = λ s. first_some o start sound s;
   }
 
   pub first_pages : Pages First

@@ -14,10 +14,10 @@ use Rattle.laws_roles.proofs.Parts.{ghost_in}
 use Rattle.laws_roles.proofs.Parts as roles
 use Rattle.laws_roles.proofs.Runs.{array_is}
 use Rattle.storage_ways.proofs.Flying.{flying, live_are}
-use Rattle.storage_ways.proofs.Moving.{around}
+use Rattle.storage_ways.proofs.Moving.{Traced, around}
 use Rattle.storage_ways.proofs.Place.{here, Place}
 use Rattle.storage_ways.proofs.Runs as run_places
-use Rattle.storage_ways.proofs.Runs.{around_on, place}
+use Rattle.storage_ways.proofs.Runs.{around_on, traced_in, place}
 use Rattle.laws_writes.specs.Laws.{WritesHold, BitsHold, WindowsHold, CopiesHold, WritesAreLegal, RunsKeepTheIntent, RunsHoldWrites, RunsHoldBits, RunsHoldWindows, RunsCopyAlone, RunsWriteLegally}
 use Rattle.laws_writes.proofs.Ghosts.{Ghost}
 use Rattle.laws_writes.proofs.Closed.{windows_hold}
@@ -32,32 +32,32 @@ module _ (o : Origin) (start end : State) (past : List Entry) (sound : SoundOpen
   abbrev rg : roles.Ghost
   rg = ghost_in o (run_places.home o start sound.opens tells) past
 
-  abbrev vs : ℕ → List Sector
-  vs = candidates (values_at o.base) past
+  abbrev tr : Traced
+  tr = traced_in o start sound.opens tells past
 
   array : end.core.array ≡ array_of o
   array = array_is o start end past sound.opens run
 
-  place_here : Place end.core (around end.core end.legs rg vs)
-  place_here = subst (λ (a : Array). Place end.core (around_on a end.legs rg vs)) (sym array) (place o start sound.opens tells past end run)
+  place_here : Place end.core (around end.core end.legs rg tr)
+  place_here = subst (λ (a : Array). Place end.core (around_on a end.legs rg tr)) (sym array) (place o start sound.opens tells past end run)
 
-  written_here : Written (here end.core (around end.core end.legs rg vs)) (ghost_of o start sound tells past end run)
-  written_here = subst (λ (a : Array). Written (here end.core (around_on a end.legs rg vs)) (ghost_of o start sound tells past end run)) (sym array) (written o start sound tells past end run)
+  written_here : Written (here end.core (around end.core end.legs rg tr)) (ghost_of o start sound tells past end run)
+  written_here = subst (λ (a : Array). Written (here end.core (around_on a end.legs rg tr)) (ghost_of o start sound tells past end run)) (sym array) (written o start sound tells past end run)
 
-  pub intent_here : Intent end vs
-  intent_here = intent_holds end rg vs place_here (ghost_of o start sound tells past end run) written_here.intents written_here.values
+  pub intent_here : Intent end (candidates (values_at o.base) past)
+  intent_here = intent_holds end rg tr place_here (ghost_of o start sound tells past end run) written_here.intents written_here.values
 
   pub writes_here : WritesHold end
-  writes_here = writes_hold end (ghost_of o start sound tells past end run) (around end.core end.legs rg vs) place_here refl written_here.bits written_here.contents refl
+  writes_here = writes_hold end (ghost_of o start sound tells past end run) (around end.core end.legs rg tr) place_here refl written_here.bits written_here.contents refl
 
-  pub bits_here : BitsHold end
-  bits_here = bits_hold end (ghost_of o start sound tells past end run) (around end.core end.legs rg vs) place_here refl written_here.bits
+  pub bits_here : BitsHold past end
+  bits_here = bits_hold end (ghost_of o start sound tells past end run) (around end.core end.legs rg tr) place_here refl past refl written_here.bits written_here.contents written_here.broken
 
   pub windows_here : WindowsHold end
-  windows_here = windows_hold end (around end.core end.legs rg vs) place_here written_here.windows
+  windows_here = windows_hold end (around end.core end.legs rg tr) place_here written_here.windows
 
   pub copies_here : CopiesHold end
-  copies_here = copies_hold end (ghost_of o start sound tells past end run) (around end.core end.legs rg vs) place_here refl written_here.windows
+  copies_here = copies_hold end (ghost_of o start sound tells past end run) (around end.core end.legs rg tr) place_here refl written_here.windows
 
 legal_here : (o : Origin) (start end : State) (past : List Entry) → SoundOpening o start → Tells o start → Run start past end → WritesAreLegal (values_at o.base) past
 legal_here o start end [] sound tells run = tt

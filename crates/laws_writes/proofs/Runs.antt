@@ -2,6 +2,7 @@
 use Rattle.std.proofs.Common.{◌≡◌, ℕ, ◌<◌, ◌==◌, ◌&&◌, if◌then◌else◌, Bool, true, false, List, [], ◌∷◌, refl, sym, ap, subst, ◌∙◌, arith}
 use Rattle.std.specs.Prelude.{nat_lt}
 use Rattle.std.proofs.lemmas.Bool.Decides.{nat_tests}
+use Rattle.mdc_types.specs.Sectors.{zero_sector}
 use Rattle.mdc_types.specs.declared.numbers.Sector.{Sector}
 use Rattle.mdc_types.specs.declared.outcomes.Entry.{Entry}
 use Rattle.md_superblock.specs.Arrays.{Array}
@@ -40,7 +41,7 @@ module _ (o : Origin) (start : State) (sound : SoundOpening o start) (tells : Te
   first_values_are : (s : ℕ) → s < o.sizes.room → first_values o s ≡ values_at o.base s
   first_values_are s lt = by (nat_lt s o.sizes.room) (grind (arith, nat_tests))
     where
-      by : (b : Bool) → b ≡ true → (if b then values_at o.base s else []) ≡ values_at o.base s
+      by : (b : Bool) → b ≡ true → (if b then values_at o.base s else zero_sector ∷ []) ≡ values_at o.base s
       by true e = refl
       by false e = cc
 
@@ -56,6 +57,7 @@ module _ (o : Origin) (start : State) (sound : SoundOpening o start) (tells : Te
         pages = first_pages o start sound sup home;
         intents = first_intents o start sound sup home;
         values = λ s lt. first_values_are s lt;
+        broken = λ n s live e. cc;
       })
 
   pub written : (past : List Entry) (end : State) (run : Run start past end) → Written (At o start sound.opens tells past end) (ghost_of past end run)

@@ -13,7 +13,7 @@ use Rattle.laws_writes.proofs.Pages.{Pages}
 use Rattle.laws_writes.proofs.PageSteps.{pages_step}
 use Rattle.laws_writes.proofs.Intent.{Intents}
 use Rattle.laws_writes.proofs.AgainSteps.{intents_step}
-use Rattle.laws_writes.proofs.Values.{ValuesAre, values_step}
+use Rattle.laws_writes.proofs.Values.{ValuesAre, BrokenAre, values_step, broken_step}
 
 pub record Written (w : Part) (g : Ghost) : Type 0 where
   pub bits : Bits w
@@ -22,6 +22,7 @@ pub record Written (w : Part) (g : Ghost) : Type 0 where
   pub pages : Pages w
   pub intents : Intents w g
   pub values : ValuesAre w g
+  pub broken : BrokenAre w g
 
 pub written_way : (w v : Part) (x : Way w v) (g : Ghost) → Sound w → Written w g → Written v (ghost_after x g)
 written_way w v x g s h = record {
@@ -31,6 +32,7 @@ written_way w v x g s h = record {
   pages = pages_step w v x s h.pages;
   intents = intents_step w v x g s h.bits h.contents h.pages h.intents;
   values = values_step w v x g h.values;
+  broken = broken_step w v x g h.broken;
 }
 
 -- the ghosts after some ways
