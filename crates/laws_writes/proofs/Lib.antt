@@ -20,7 +20,6 @@ pub mod NeedSteps
 pub mod MarkSteps
 pub mod CoverSteps
 pub mod AgainSteps
-pub mod FirstMarks
 pub mod FirstKeepers
 pub mod First
 pub mod Values

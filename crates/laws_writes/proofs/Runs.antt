@@ -51,11 +51,11 @@ module _ (o : Origin) (start : State) (sound : SoundOpening o start) (tells : Te
       let sup = supers (array_of o) start.legs in
       subst (λ c. Written (here c (around_at o start sound.opens tells [] start)) (first_ghost o start.legs)) (sym sound.opens.core)
       (record {
-        bits = first_bits o start sound sup home;
-        windows = first_windows o start sound sup home;
-        contents = first_contents o start sound sup home;
-        pages = first_pages o start sound sup home;
-        intents = first_intents o start sound sup home;
+        bits = first_bits o start sound tells sup home;
+        windows = first_windows o start sound tells sup home;
+        contents = first_contents o start sound tells sup home;
+        pages = first_pages o start sound tells sup home;
+        intents = first_intents o start sound tells sup home;
         values = λ s lt. first_values_are s lt;
         broken = λ n s live e. cc;
       })
