@@ -1,7 +1,6 @@
 -- The ways of a transfer that failed: the leg is lost, or it stays as the node's last, and an offer
 -- that doesn't reach its leg is void.
-use Rattle.std.proofs.Common.{◌≡◌, ◌⊎◌, inl, inr, ℕ, ◌==◌, Bool, true, false, if◌then◌else◌, Option, Some, None, refl, sym, ap, subst, ◌∙◌, arith}
-use Rattle.std.proofs.lemmas.Bool.Decides.{nat_tests}
+use Rattle.std.proofs.Common.{◌≡◌, inr, ℕ, Bool, true, false, if◌then◌else◌, Some, refl, sym, ap, subst}
 use Rattle.dlm_modes.specs.Points.{with_at}
 use Rattle.mdc_types.specs.declared.events.Event.{Event}
 use Rattle.mdc_types.specs.declared.outcomes.Outcome.{Outcome}
@@ -15,7 +14,7 @@ use Rattle.cluster_model.specs.State.{Core}
 use Rattle.cluster_model.specs.After.{after, after_loss, after_miss}
 use Rattle.cluster_model.specs.Changes.{voided}
 use Rattle.cluster_model.specs.Failures.{tried, lost_or_io, leg_lost, request_failed}
-use Rattle.cluster_model.specs.Phases.{is_in, is_up}
+use Rattle.cluster_model.specs.Phases.{is_in}
 use Rattle.cluster_model.specs.Transfers.{Transfer, transfer_of}
 use Rattle.laws_roles.proofs.PassRows.{voided_not}
 use Rattle.storage_ways.proofs.Parts.{Part}

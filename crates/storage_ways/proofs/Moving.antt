@@ -1,6 +1,5 @@
 -- What the moves are of an event, and what stands on the legs after them.
-use Rattle.std.proofs.Common.{◌≡◌, ◌⊎◌, inl, inr, ℕ, ◌+◌, ◌<◌, ◌≤◌, ◌==◌, ◌&&◌, Bool, true, false, if◌then◌else◌, List, Option, Some, None, refl, sym, ap, subst, ◌∙◌, arith}
-use Rattle.mdc_types.specs.Geometry.{page_of, page_sector, nodes_of, data_offset}
+use Rattle.std.proofs.Common.{◌≡◌, ℕ, ◌+◌, Bool, true, false, if◌then◌else◌, List, Option, Some, None, refl, sym, ap, subst, ◌∙◌}
 use Rattle.mdc_types.specs.declared.events.Event.{Event}
 use Rattle.mdc_types.specs.declared.events.Event.TheVariants as events
 use Rattle.mdc_types.specs.declared.numbers.Sector.{Sector}
@@ -10,7 +9,6 @@ use Rattle.md_superblock.specs.Arrays.{Says}
 use Rattle.dlm_space.specs.declared.ask.Ask.{Ask}
 use Rattle.plain_history.specs.History.{PlainWrite, values_step}
 use Rattle.resync_worker.specs.declared.buffer.Buffer.{Buffer}
-use Rattle.slot_pages.specs.Slot.{page_has, chunk_bit}
 use Rattle.cluster_model.specs.State.{State, Core, Legs, sizes}
 use Rattle.cluster_model.specs.After.{after, done}
 use Rattle.cluster_model.specs.Copying.{buffer_of, settled_with}
@@ -19,7 +17,7 @@ use Rattle.cluster_model.specs.Granting.{asker}
 use Rattle.cluster_model.specs.Outcomes.{outcome_of, outcome_read, granted_to}
 use Rattle.cluster_model.specs.Phases.{is_metadata}
 use Rattle.cluster_model.specs.Run.{Moves, Quiet, Written, Read, Failed, Left, Gives, put}
-use Rattle.cluster_model.specs.Stored.{bit_on, data_on}
+use Rattle.cluster_model.specs.Stored.{data_on}
 use Rattle.cluster_model.specs.Transfers.{Transfer, transfer_of}
 use Rattle.laws_roles.proofs.OtherRows.{is_failed}
 use Rattle.laws_roles.proofs.Parts as roles

@@ -1,8 +1,6 @@
 -- What writes, marks, copying and recovery go by: what nodes keep of them, their views and rounds,
 -- and what stands on the legs.
-use Rattle.std.specs.Prelude.{ℕ, ◌≤◌, ◌+◌, ◌==◌, Bool, true, false, not, ◌&&◌, ◌||◌, nat_lt, if◌then◌else◌, Option, Some, None, is_some, List, [], ◌∷◌, ◌++◌, unwrap_or}
-use Rattle.std.specs.Prelude.{◌≡◌}
-use Rattle.dlm_modes.specs.Points.{with_at}
+use Rattle.std.specs.Prelude.{ℕ, ◌≤◌, ◌==◌, Bool, true, false, not, ◌&&◌, nat_lt, if◌then◌else◌, Option, Some, None, is_some, List, [], ◌∷◌, ◌++◌, unwrap_or}
 use Rattle.mdc_types.specs.Geometry.{Sizes, chunk_of, nodes_of, page_of}
 use Rattle.mdc_types.specs.declared.events.Wish.{Wish}
 use Rattle.mdc_types.specs.declared.events.Wish.TheVariants as wishes
@@ -21,12 +19,12 @@ use Rattle.node_bitmaps.specs.Bitmap.{Bitmap}
 use Rattle.node_recovery.specs.Progress.{Recovering}
 use Rattle.resync_worker.specs.Copying.{Passing}
 use Rattle.resync_worker.specs.declared.buffer.Buffer.{Buffer}
-use Rattle.suspend_ranges.specs.Suspended.{entry_of, suspends}
+use Rattle.suspend_ranges.specs.Suspended.{entry_of}
 use Rattle.dlm_space.specs.Locks.{Lock}
-use Rattle.cluster_model.specs.State.{Core, Legs, Offer, Tried, Adding, Copy, sizes}
+use Rattle.cluster_model.specs.State.{Core, Legs, Offer, Tried, Adding, Copy}
 use Rattle.cluster_model.specs.Joining.{told_range}
 use Rattle.cluster_model.specs.Phases.{offers}
-use Rattle.cluster_model.specs.Stored.{bit_on, data_on}
+use Rattle.cluster_model.specs.Stored.{bit_on}
 use Rattle.laws_roles.proofs.Parts as roles
 
 pub record Part : Type 0 where

@@ -1,8 +1,7 @@
 -- The way of each event that transfers nothing.
-use Rattle.std.proofs.Common.{◌≡◌, ℕ, Bool, true, false, List, Option, Some, None, refl, sym, ap, subst, arith}
+use Rattle.std.proofs.Common.{◌≡◌, ℕ, Bool, true, false, Option, Some, None, refl, sym, ap, subst, arith}
 use Rattle.mdc_types.specs.declared.events.Event.{Event}
 use Rattle.mdc_types.specs.declared.events.Event.TheVariants as events
-use Rattle.mdc_types.specs.declared.numbers.Sector.{Sector}
 use Rattle.mdc_types.specs.declared.outcomes.Outcome.{Outcome}
 use Rattle.mdc_types.specs.declared.outcomes.Outcome.TheVariants as outcomes
 use Rattle.mirror_io.specs.Flight.{write_in}
@@ -20,19 +19,19 @@ use Rattle.cluster_model.specs.Writes.{end_write, break_write}
 use Rattle.laws_roles.proofs.Parts as roles
 use Rattle.storage_ways.specs.Broken.{broken_by, decided_by, broken_step}
 use Rattle.storage_ways.proofs.Flying.{flying, plain_of}
-use Rattle.storage_ways.proofs.Parts.{Part, decided_values, decided_there}
+use Rattle.storage_ways.proofs.Parts.{decided_values, decided_there}
 use Rattle.storage_ways.proofs.Place.{Around, here, Place, sound_of}
 use Rattle.storage_ways.proofs.Moving.{Traced, around, next, quiet_of, quiet_well, done_when, moved}
 use Rattle.storage_ways.proofs.BitmapRows.{clear_way}
 use Rattle.storage_ways.proofs.ComingRows.{join_way, up_way}
-use Rattle.storage_ways.proofs.CopyRows.{resync_way, end_pass_way, own_way, full_way, again_way, settle_way, settled, Settled}
+use Rattle.storage_ways.proofs.CopyRows.{resync_way, end_pass_way, own_way, full_way, again_way, settle_way, settled}
 use Rattle.storage_ways.proofs.FinishRows.{finish_way}
 use Rattle.storage_ways.proofs.GoingRows.{leave_way, die_way, quit_way}
 use Rattle.storage_ways.proofs.GrantRows.{granted_way, token_way, message_asked_way}
 use Rattle.storage_ways.proofs.OfferRows.{offer_way}
 use Rattle.storage_ways.proofs.ReceivingRows.{process_way, resume_way, drop_way}
 use Rattle.storage_ways.proofs.RecoveryRows.{recover_way, recovered_way}
-use Rattle.storage_ways.proofs.RequestRows.{ask_way, end_way, ended, Ended, Broken, broken, break_way}
+use Rattle.storage_ways.proofs.RequestRows.{ask_way, end_way, ended, Broken, broken, break_way}
 use Rattle.storage_ways.proofs.RoundRows.{publish_way, take_way}
 use Rattle.storage_ways.proofs.Blocks.{retold, told_high}
 use Rattle.storage_ways.proofs.Ways.{Way, Ways, one, still}

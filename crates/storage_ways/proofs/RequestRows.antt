@@ -1,33 +1,30 @@
 -- The ways of requests: writes are asked, tried, ended and broken.
-use Rattle.std.proofs.Common.{◌≡◌, inl, inr, ℕ, ◌<◌, ◌≤◌, ◌+◌, ◌==◌, ◌&&◌, ◌||◌, Bool, true, false, not, if◌then◌else◌, List, [], ◌∷◌, ◌++◌, Option, Some, None, refl, sym, ap, subst, ◌∙◌, arith, nat_lt}
-use Rattle.std.specs.Prelude.{is_some}
+use Rattle.std.proofs.Common.{◌≡◌, inl, inr, ℕ, ◌<◌, ◌≤◌, ◌+◌, ◌==◌, ◌||◌, Bool, true, false, not, if◌then◌else◌, List, [], ◌∷◌, ◌++◌, Option, Some, None, refl, sym, ap, subst, ◌∙◌, arith, nat_lt}
 use Rattle.std.proofs.lemmas.Bool.{cases_lt}
 use Rattle.std.proofs.lemmas.Bool.Decides.{nat_tests}
 use Rattle.dlm_modes.proofs.FirstLaws.{first_such_none}
 use Rattle.dlm_modes.specs.Guards.{first_of}
 use Rattle.dlm_modes.specs.Points.{with_at}
 use Rattle.mdc_types.specs.Geometry.{chunk_of, nodes_of}
-use Rattle.mdc_types.specs.Pages.{leg_without}
 use Rattle.mdc_types.specs.declared.numbers.Sector.{Sector}
 use Rattle.mdc_types.specs.declared.refusals.Refusal.TheVariants.{Suspended, InFlight, NoWrite, NotWritten, BitMissing, NoSector, NoLeg}
 use Rattle.mdc_types.specs.declared.roles.NodeState.{NodeState}
 use Rattle.leg_failure.specs.Views.{is_target}
-use Rattle.mirror_io.specs.Flight.{write_in, is_done, new_write, started, done_on, start_in, done_in, without_write, missing_leg, WritesRise}
+use Rattle.mirror_io.specs.Flight.{write_in, is_done, new_write, started, done_on, start_in, done_in, missing_leg, WritesRise}
 use Rattle.mirror_io.specs.declared.live.LiveWrite.{LiveWrite}
 use Rattle.mirror_io.proofs.Lookups.{started_option, done_option, write_in-push, write_in-without, write_in-start, write_in-done}
-use Rattle.node_bitmaps.specs.Bitmap.{unmarked_target}
 use Rattle.suspend_ranges.specs.Suspended.{covering, suspends}
 use Rattle.cluster_model.specs.State.{Core, sizes}
 use Rattle.cluster_model.specs.Changes.{headed}
-use Rattle.cluster_model.specs.Guards.{is_out, refused_by}
+use Rattle.cluster_model.specs.Guards.{is_out}
 use Rattle.cluster_model.specs.Phases.{is_up}
 use Rattle.cluster_model.specs.Writes.{w_guards, out_guards, ok_guards, break_guards, ask_write, start_write, out_done, end_write, break_write, write_ended, bitmap_ended, write_sector, writer_of, any_of_sector, unmarked_leg, unwritten_target}
 use Rattle.laws_sound.proofs.Guarded.{all_none, unless_none, refused_none, found_none}
 use Rattle.laws_sound.proofs.RoundFacts.{here as same_point}
-use Rattle.storage_ways.proofs.Parts.{Part, with_data, with_data_if, tried_values, decided_values, broken_there, decided_there}
+use Rattle.storage_ways.proofs.Parts.{with_data, with_data_if, tried_values, decided_values, broken_there, decided_there}
 use Rattle.storage_ways.proofs.Place.{Around, here, Place}
-use Rattle.storage_ways.proofs.Guarding.{Found, found_some, acked_by, all_targets, target_leg, below_legs, both_nots}
-use Rattle.storage_ways.proofs.Ways.{Way, Acked, Finds, Asking, Trying, Ending, Finishing, asks, outs, misses, ends, breaks}
+use Rattle.storage_ways.proofs.Guarding.{found_some, acked_by, all_targets, below_legs}
+use Rattle.storage_ways.proofs.Ways.{Way, Finds, Asking, Trying, Finishing, asks, outs, misses, ends, breaks}
 
 -- Writes in flight.
 

@@ -1,24 +1,23 @@
 -- Along each run over legs that tell: what is known at each place, and that each step is made of ways.
-use Rattle.std.proofs.Common.{◌≡◌, inl, inr, ℕ, ◌<◌, ◌≤◌, ◌^◌, ◌==◌, ◌&&◌, Bool, true, false, List, [], ◌∷◌, Option, Some, None, refl, sym, ap, subst, ◌∙◌, arith, nat_lt, if◌then◌else◌}
+use Rattle.std.proofs.Common.{◌≡◌, inl, inr, ℕ, ◌<◌, ◌≤◌, ◌^◌, ◌&&◌, Bool, true, false, List, [], ◌∷◌, sym, ap, subst, ◌∙◌, arith, nat_lt, if◌then◌else◌}
 use Rattle.std.proofs.lemmas.Bool.{cases_lt}
 use Rattle.std.proofs.lemmas.Bool.Decides.{nat_tests}
 use Rattle.std.proofs.lemmas.Nat.Bits.{bit_at_above}
 use Rattle.mdc_types.specs.Bits.{has_bit}
-use Rattle.mdc_types.specs.Geometry.{Sizes, chunks_of, nodes_of, page_of}
-use Rattle.mdc_types.specs.declared.numbers.Sector.{Sector}
+use Rattle.mdc_types.specs.Geometry.{Sizes, chunks_of, nodes_of}
 use Rattle.mdc_types.specs.declared.outcomes.Entry.{Entry}
 use Rattle.md_superblock.specs.Arrays.{Array}
-use Rattle.plain_history.specs.History.{PlainWrite, candidates, values_at, live_writes, values_step}
-use Rattle.cluster_model.specs.State.{State, Core, Legs, sizes}
+use Rattle.plain_history.specs.History.{candidates, values_at}
+use Rattle.cluster_model.specs.State.{State, Legs, sizes}
 use Rattle.cluster_model.specs.After.{after}
 use Rattle.cluster_model.specs.Contents.{Opens}
-use Rattle.cluster_model.specs.Opening.{Origin, IsOrigin, array_of, core_at}
+use Rattle.cluster_model.specs.Opening.{Origin, array_of}
 use Rattle.cluster_model.specs.Run.{Run, Step, Moves, Quiet, Written, Read, Failed, Left}
 use Rattle.cluster_model.specs.Stored.{bit_on, data_on}
 use Rattle.laws_locks.proofs.OtherRuns.{other_locks_hold}
 use Rattle.laws_locks.proofs.Runs.{run_is}
 use Rattle.laws_roles.specs.Laws.{Tells}
-use Rattle.laws_roles.proofs.Known.{Known, known}
+use Rattle.laws_roles.proofs.Known.{known}
 use Rattle.laws_roles.proofs.Parts as roles
 use Rattle.laws_roles.proofs.Parts.{supers, ghost_after, ghost_in}
 use Rattle.laws_roles.proofs.Runs as role_runs
@@ -27,7 +26,7 @@ use Rattle.laws_roles.proofs.Standing.{Bytes}
 use Rattle.storage_ways.specs.Broken.{broken_in}
 use Rattle.storage_ways.proofs.Flying.{flying, live_are}
 use Rattle.storage_ways.proofs.KeptSteps.{Kept, kept_ways}
-use Rattle.storage_ways.proofs.Moving.{Traced, traced, around, next}
+use Rattle.storage_ways.proofs.Moving.{Traced, traced, around}
 use Rattle.storage_ways.proofs.Parts.{Part, bits_on}
 use Rattle.storage_ways.proofs.Place.{Around, here, Place, sound_of}
 use Rattle.storage_ways.proofs.Sound.{Sound}

@@ -1,21 +1,19 @@
 -- The ways of each event that writes a page or data.
-use Rattle.std.proofs.Common.{◌≡◌, ◌⊎◌, inl, inr, ℕ, ◌+◌, ◌*◌, ◌<◌, ◌≤◌, ◌==◌, ◌&&◌, Bool, true, false, List, Option, Some, None, refl, sym, ap, subst, ◌∙◌, arith}
-use Rattle.std.specs.Prelude.{option_map}
+use Rattle.std.proofs.Common.{◌≡◌, inr, ℕ, ◌+◌, ◌*◌, ◌<◌, ◌≤◌, Bool, true, false, Option, Some, None, refl, sym, ap, subst, arith}
 use Rattle.mdc_types.specs.Geometry.{Sizes, IsGeometry, chunks_of, page_sector, pages_of, nodes_of, slot_pages, data_offset, data_offset_of}
 use Rattle.mdc_types.specs.declared.events.Event.{Event}
 use Rattle.mdc_types.specs.declared.events.Event.TheVariants as events
 use Rattle.mdc_types.specs.declared.numbers.Sector.{Sector}
 use Rattle.mdc_types.specs.declared.outcomes.Outcome.{Outcome}
 use Rattle.mdc_types.specs.declared.outcomes.Outcome.TheVariants as outcomes
-use Rattle.md_superblock.specs.Arrays.{Says}
-use Rattle.mirror_io.specs.Flight.{write_in, started}
+use Rattle.mirror_io.specs.Flight.{started}
 use Rattle.mirror_io.specs.declared.live.LiveWrite.{LiveWrite}
 use Rattle.node_recovery.specs.Progress.{Recovering}
-use Rattle.plain_history.specs.History.{PlainWrite, values_step, with_start}
+use Rattle.plain_history.specs.History.{PlainWrite, with_start}
 use Rattle.resync_worker.specs.declared.buffer.Buffer.{Buffer}
 use Rattle.cluster_model.specs.State.{State, Core, Legs, sizes, place_of}
-use Rattle.cluster_model.specs.After.{after, done}
-use Rattle.cluster_model.specs.Bits.{page_sector_of, page_written, page_failed}
+use Rattle.cluster_model.specs.After.{after}
+use Rattle.cluster_model.specs.Bits.{page_sector_of, page_written}
 use Rattle.cluster_model.specs.Copying.{copied_out}
 use Rattle.cluster_model.specs.Failures.{lost_or_io, slot_failed}
 use Rattle.cluster_model.specs.Phases.{is_in, is_up}
@@ -23,7 +21,7 @@ use Rattle.cluster_model.specs.Run.{Moves, put}
 use Rattle.cluster_model.specs.Stored.{data_on}
 use Rattle.cluster_model.specs.Table.{refusal}
 use Rattle.cluster_model.specs.Transfers.{Transfer, transfer_of, writes_to, out_transfer, copy_out_transfer, slot_out_transfer}
-use Rattle.cluster_model.specs.Writes.{start_write, out_done, write_ended}
+use Rattle.cluster_model.specs.Writes.{start_write, out_done}
 use Rattle.laws_roles.proofs.Parts as roles
 use Rattle.laws_roles.proofs.Parts.{supers}
 use Rattle.laws_roles.proofs.Standing.{others_stand}
@@ -41,7 +39,7 @@ use Rattle.storage_ways.proofs.Moving.{Traced, traced, around, next, Puts, well,
 use Rattle.storage_ways.proofs.RecoveryRows.{PageCleared, page_cleared_so, slot_out_way, missed_slot_way}
 use Rattle.storage_ways.proofs.RequestRows.{Tries, tries, out_way, missed_way, tried_found, broken_from}
 use Rattle.storage_ways.proofs.Standing.{bits_stay, bits_put, data_stays, data_put, page_before, used_page_there}
-use Rattle.storage_ways.proofs.Ways.{Way, Ways, PageTo, one, none, more, still}
+use Rattle.storage_ways.proofs.Ways.{Ways, PageTo, one, still}
 
 -- pages and data lie behind the superblock
 page_far : (g : Sizes) (n q : ℕ) → 16 ≤ page_sector g n q
