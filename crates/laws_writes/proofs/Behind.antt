@@ -127,13 +127,13 @@ stays_stored w v (ways.copies n j p b z) g sound win con a s l e = data_kept w.s
 stays_stored w v (ways.misses_copy n j p b left z) g sound win con a s l e = data_kept_if left w.stored j b.sector b.value l s (no_buffer_here w g sound win con a s n p b e z.buffers)
 stays_stored w v x g sound win con a s l e = refl
 
-try_kept : (g : Ghost) (n k : ℕ) (x : LiveWrite) (s : ℕ) → (s == x.sector) ≡ false → (with_try g n k x).values s ≡ g.values s
+pub try_kept : (g : Ghost) (n k : ℕ) (x : LiveWrite) (s : ℕ) → (s == x.sector) ≡ false → (with_try g n k x).values s ≡ g.values s
 try_kept g n k x s other = by (s == x.sector) x.started other
   where
     by : (b c : Bool) → b ≡ false → (if b && not c then g.values s ++ x.value ∷ [] else g.values s) ≡ g.values s
     by b c e = grind arith
 
-value_kept : (g : Ghost) (t : ℕ) (v : Sector) (s : ℕ) → (s == t) ≡ false → (with_value g t v).values s ≡ g.values s
+pub value_kept : (g : Ghost) (t : ℕ) (v : Sector) (s : ℕ) → (s == t) ≡ false → (with_value g t v).values s ≡ g.values s
 value_kept g t v s other = grind arith
 
 pub stays_decided : (w v : Part) (x : Way w v) (g : Ghost) → Sound w → Windows w → Contents w g → (a s : ℕ) → is_settled w a s ≡ true → (ghost_after x g).values s ≡ g.values s

@@ -39,3 +39,4 @@ pub mod Moves
 pub mod PlaceSteps
 pub mod Behind
 pub mod CopySteps
+pub mod FlightSteps
