@@ -1,25 +1,24 @@
 -- What was settled in a window stays as it is: it was settled before a way, or is settled in it, and
 -- nothing else happens there.
-use Rattle.std.proofs.Common.{◌≡◌, ◌≢◌, ◌⊎◌, inl, inr, ℕ, ◌+◌, ◌<◌, ◌==◌, ◌&&◌, if◌then◌else◌, Bool, true, false, Option, Some, None, List, ◌∷◌, [], ◌++◌, option_map, refl, sym, ap, ap₂, subst, ◌∙◌, arith}
+use Rattle.std.proofs.Common.{◌≡◌, ◌⊎◌, inl, inr, ℕ, ◌==◌, ◌&&◌, if◌then◌else◌, Bool, true, false, Option, Some, None, ◌∷◌, [], ◌++◌, option_map, refl, sym, ap, subst, ◌∙◌, arith}
 use Rattle.std.specs.Prelude.{is_some, not}
-use Rattle.std.proofs.lemmas.Bool.Decides.{nat_tests}
-use Rattle.mdc_types.specs.Geometry.{Sizes, IsGeometry, chunk_of}
+use Rattle.mdc_types.specs.Geometry.{Sizes, IsGeometry}
 use Rattle.mdc_types.specs.declared.numbers.Sector.{Sector}
 use Rattle.mirror_io.specs.declared.live.LiveWrite.{LiveWrite}
-use Rattle.resync_worker.specs.Copying.{Passing, settled_at, covering_only}
+use Rattle.resync_worker.specs.Copying.{Passing, covering_only}
 use Rattle.resync_worker.specs.Sectors.{is_behind, reached_after}
 use Rattle.resync_worker.specs.declared.buffer.Buffer.{Buffer}
 use Rattle.cluster_model.specs.State.{Copy}
 use Rattle.cluster_model.specs.Copying.{next_for}
 use Rattle.laws_roles.proofs.Parts as roles
-use Rattle.storage_ways.proofs.Parts.{Part, chunk_in, writes_at, write_of, has_pass, reached_in, buffer_in, with_data, with_data_if}
+use Rattle.storage_ways.proofs.Parts.{Part, writes_at, write_of, has_pass, reached_in, with_data, with_data_if}
 use Rattle.storage_ways.proofs.Sound.{Sound}
 use Rattle.storage_ways.proofs.Ways.{Way, Trying, Buffers}
 use Rattle.storage_ways.proofs.Ways as ways
 use Rattle.laws_writes.proofs.Ghosts.{Ghost, ghost_after, with_try, with_value}
 use Rattle.laws_writes.proofs.Windows.{Windows}
 use Rattle.laws_writes.proofs.Contents.{Contents, is_settled}
-use Rattle.laws_writes.proofs.Flights.{is_same, same_nat, write_there}
+use Rattle.laws_writes.proofs.Flights.{is_same, write_there}
 use Rattle.laws_writes.proofs.Chunks.{behind_after, behind_reached, next_not_behind}
 use Rattle.laws_writes.proofs.Places.{before_next}
 use Rattle.laws_writes.proofs.Races.{no_write_settled}

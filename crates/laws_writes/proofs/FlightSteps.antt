@@ -1,6 +1,5 @@
 -- Each way keeps what legs hold of live writes, and which of them have started.
-use Rattle.std.proofs.Common.{◌≡◌, ◌≢◌, ◌⊎◌, inl, inr, ℕ, ◌+◌, ◌<◌, ◌==◌, ◌&&◌, ◌||◌, not, if◌then◌else◌, Bool, true, false, Option, Some, None, List, ◌∷◌, [], ◌++◌, refl, sym, ap, ap₂, subst, ◌∙◌, arith}
-use Rattle.std.proofs.lemmas.Bool.Decides.{nat_tests}
+use Rattle.std.proofs.Common.{◌≡◌, inl, inr, ℕ, ◌==◌, ◌&&◌, ◌||◌, not, if◌then◌else◌, Bool, true, false, Option, Some, None, List, ◌∷◌, [], ◌++◌, refl, sym, ap, ap₂, subst, ◌∙◌, arith}
 use Rattle.dlm_modes.specs.Points.{with_at}
 use Rattle.resync_worker.specs.Copying.{Passing}
 use Rattle.resync_worker.specs.declared.buffer.Buffer.{Buffer}
@@ -18,7 +17,7 @@ use Rattle.laws_writes.proofs.Ghosts.{Ghost, ghost_after, undecided, is_among, i
 use Rattle.laws_writes.proofs.Bits.{Bits}
 use Rattle.laws_writes.proofs.Windows.{Windows}
 use Rattle.laws_writes.proofs.Contents.{Contents, DoneHolds, DoneStarted, StartedValue, StartedUndecided}
-use Rattle.laws_writes.proofs.Flights.{is_same, same_nat, write_there, IsAt, IsElse, flown}
+use Rattle.laws_writes.proofs.Flights.{is_same, same_nat, write_there, IsElse, flown}
 use Rattle.laws_writes.proofs.Races.{no_write_buffer}
 use Rattle.laws_writes.proofs.Moves.{data_there}
 use Rattle.laws_writes.proofs.Behind.{data_kept, data_kept_if, differs, try_kept, value_kept}
@@ -119,12 +118,12 @@ module _ (w : Part) (g : Ghost) (sound : Sound w) (bits : Bits w) (win : Windows
   fine_out : (n k j : ℕ) (x : LiveWrite) → Trying w n k j x → (a i : ℕ) (y : LiveWrite) → write_in i (with_at w.writes n (done_in k j (start_in k (w.writes n))) a) ≡ Some y
       → Fine (with_data w.stored j x.sector x.value) (with_try g n k x).values y
   fine_out n k j x t a i y is = elim (flown w.writes n k (done_in k j (start_in k (w.writes n))) (Some (done_on j (started x))) t.does a i y is) [
-      | inl here ↦ subst (Fine (with_data w.stored j x.sector x.value) (with_try g n k x).values) (some_write (done_on j (started x)) y here.is)
-          (fine_started w.stored (with_data w.stored j x.sector x.value) g n k x (done_on j (started x)) (fine n k x t.write) (con.some_value x.sector) refl refl refl holds)
-      | inr rest ↦
-          let apart = other_sector n k x t.write a i y rest in
-          fine_kept w.stored (with_data w.stored j x.sector x.value) g.values (with_try g n k x).values y (λ l. data_kept w.stored j x.sector x.value l y.sector apart) (try_kept g n k x y.sector apart) (fine a i y rest.was)
-    ]
+    | inl here ↦ subst (Fine (with_data w.stored j x.sector x.value) (with_try g n k x).values) (some_write (done_on j (started x)) y here.is)
+        (fine_started w.stored (with_data w.stored j x.sector x.value) g n k x (done_on j (started x)) (fine n k x t.write) (con.some_value x.sector) refl refl refl holds)
+    | inr rest ↦
+        let apart = other_sector n k x t.write a i y rest in
+        fine_kept w.stored (with_data w.stored j x.sector x.value) g.values (with_try g n k x).values y (λ l. data_kept w.stored j x.sector x.value l y.sector apart) (try_kept g n k x y.sector apart) (fine a i y rest.was)
+  ]
     where
       by : (l : ℕ) (b : Bool) → (l == j) ≡ b → (if b then true else is_done (started x) l) ≡ true → with_data w.stored j x.sector x.value l x.sector ≡ x.value
       by l true e h = ap (λ m. with_data w.stored j x.sector x.value m x.sector) (is_same l j e) ∙ data_there w.stored j x.sector x.value
@@ -136,13 +135,13 @@ module _ (w : Part) (g : Ghost) (sound : Sound w) (bits : Bits w) (win : Windows
   fine_missed : (n k j : ℕ) (x : LiveWrite) (left : Bool) → Trying w n k j x → (a i : ℕ) (y : LiveWrite) → write_in i (with_at w.writes n (start_in k (w.writes n)) a) ≡ Some y
       → Fine (with_data_if left w.stored j x.sector x.value) (with_try g n k x).values y
   fine_missed n k j x left t a i y is = elim (flown w.writes n k (start_in k (w.writes n)) (Some (started x)) t.starts a i y is) [
-      | inl here ↦ subst (Fine (with_data_if left w.stored j x.sector x.value) (with_try g n k x).values) (some_write (started x) y here.is)
-          (fine_started w.stored (with_data_if left w.stored j x.sector x.value) g n k x (started x) (fine n k x t.write) (con.some_value x.sector) refl refl refl
-          (λ l e. data_either_if left w.stored j x.sector x.value l x.sector x.value (λ z. refl) ((fine n k x t.write).holds l e)))
-      | inr rest ↦
-          let apart = other_sector n k x t.write a i y rest in
-          fine_kept w.stored (with_data_if left w.stored j x.sector x.value) g.values (with_try g n k x).values y (λ l. data_kept_if left w.stored j x.sector x.value l y.sector apart) (try_kept g n k x y.sector apart) (fine a i y rest.was)
-    ]
+    | inl here ↦ subst (Fine (with_data_if left w.stored j x.sector x.value) (with_try g n k x).values) (some_write (started x) y here.is)
+        (fine_started w.stored (with_data_if left w.stored j x.sector x.value) g n k x (started x) (fine n k x t.write) (con.some_value x.sector) refl refl refl
+        (λ l e. data_either_if left w.stored j x.sector x.value l x.sector x.value (λ z. refl) ((fine n k x t.write).holds l e)))
+    | inr rest ↦
+        let apart = other_sector n k x t.write a i y rest in
+        fine_kept w.stored (with_data_if left w.stored j x.sector x.value) g.values (with_try g n k x).values y (λ l. data_kept_if left w.stored j x.sector x.value l y.sector apart) (try_kept g n k x y.sector apart) (fine a i y rest.was)
+  ]
 
   -- a write that ended
   ended : (n k : ℕ) (x : LiveWrite) → Ending w n k x → (a i : ℕ) (y : LiveWrite) → write_in i (with_at w.writes n (without_write k (w.writes n)) a) ≡ Some y → IsElse w.writes n k a i y

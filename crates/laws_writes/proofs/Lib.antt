@@ -40,3 +40,5 @@ pub mod PlaceSteps
 pub mod Behind
 pub mod CopySteps
 pub mod FlightSteps
+pub mod BrokeSteps
+pub mod ContentSteps
