@@ -1,25 +1,24 @@
 -- What was settled in a window stays as it is: it was settled before a way, or is settled in it, and
 -- nothing else happens there.
-use Rattle.std.proofs.Common.{◌≡◌, ◌≢◌, ◌⊎◌, inl, inr, ℕ, ◌+◌, ◌<◌, ◌==◌, ◌&&◌, if◌then◌else◌, Bool, true, false, Option, Some, None, List, ◌∷◌, [], ◌++◌, option_map, refl, sym, ap, ap₂, subst, ◌∙◌, arith}
+use Rattle.std.proofs.Common.{◌≡◌, ◌⊎◌, inl, inr, ℕ, ◌==◌, ◌&&◌, if◌then◌else◌, Bool, true, false, Option, Some, None, ◌∷◌, [], ◌++◌, option_map, refl, sym, ap, subst, ◌∙◌, arith}
 use Rattle.std.specs.Prelude.{is_some, not}
-use Rattle.std.proofs.lemmas.Bool.Decides.{nat_tests}
-use Rattle.mdc_types.specs.Geometry.{Sizes, IsGeometry, chunk_of}
+use Rattle.mdc_types.specs.Geometry.{Sizes, IsGeometry}
 use Rattle.mdc_types.specs.declared.numbers.Sector.{Sector}
 use Rattle.mirror_io.specs.declared.live.LiveWrite.{LiveWrite}
-use Rattle.resync_worker.specs.Copying.{Passing, settled_at, covering_only}
+use Rattle.resync_worker.specs.Copying.{Passing, covering_only}
 use Rattle.resync_worker.specs.Sectors.{is_behind, reached_after}
 use Rattle.resync_worker.specs.declared.buffer.Buffer.{Buffer}
 use Rattle.cluster_model.specs.State.{Copy}
 use Rattle.cluster_model.specs.Copying.{next_for}
 use Rattle.laws_roles.proofs.Parts as roles
-use Rattle.storage_ways.proofs.Parts.{Part, chunk_in, writes_at, write_of, has_pass, reached_in, buffer_in, with_data, with_data_if}
+use Rattle.storage_ways.proofs.Parts.{Part, writes_at, write_of, has_pass, reached_in, with_data, with_data_if}
 use Rattle.storage_ways.proofs.Sound.{Sound}
 use Rattle.storage_ways.proofs.Ways.{Way, Trying, Buffers}
 use Rattle.storage_ways.proofs.Ways as ways
 use Rattle.laws_writes.proofs.Ghosts.{Ghost, ghost_after, with_try, with_value}
 use Rattle.laws_writes.proofs.Windows.{Windows}
 use Rattle.laws_writes.proofs.Contents.{Contents, is_settled}
-use Rattle.laws_writes.proofs.Flights.{is_same, same_nat, write_there}
+use Rattle.laws_writes.proofs.Flights.{is_same, write_there}
 use Rattle.laws_writes.proofs.Chunks.{behind_after, behind_reached, next_not_behind}
 use Rattle.laws_writes.proofs.Places.{before_next}
 use Rattle.laws_writes.proofs.Races.{no_write_settled}
@@ -127,13 +126,13 @@ stays_stored w v (ways.copies n j p b z) g sound win con a s l e = data_kept w.s
 stays_stored w v (ways.misses_copy n j p b left z) g sound win con a s l e = data_kept_if left w.stored j b.sector b.value l s (no_buffer_here w g sound win con a s n p b e z.buffers)
 stays_stored w v x g sound win con a s l e = refl
 
-try_kept : (g : Ghost) (n k : ℕ) (x : LiveWrite) (s : ℕ) → (s == x.sector) ≡ false → (with_try g n k x).values s ≡ g.values s
+pub try_kept : (g : Ghost) (n k : ℕ) (x : LiveWrite) (s : ℕ) → (s == x.sector) ≡ false → (with_try g n k x).values s ≡ g.values s
 try_kept g n k x s other = by (s == x.sector) x.started other
   where
     by : (b c : Bool) → b ≡ false → (if b && not c then g.values s ++ x.value ∷ [] else g.values s) ≡ g.values s
     by b c e = grind arith
 
-value_kept : (g : Ghost) (t : ℕ) (v : Sector) (s : ℕ) → (s == t) ≡ false → (with_value g t v).values s ≡ g.values s
+pub value_kept : (g : Ghost) (t : ℕ) (v : Sector) (s : ℕ) → (s == t) ≡ false → (with_value g t v).values s ≡ g.values s
 value_kept g t v s other = grind arith
 
 pub stays_decided : (w v : Part) (x : Way w v) (g : Ghost) → Sound w → Windows w → Contents w g → (a s : ℕ) → is_settled w a s ≡ true → (ghost_after x g).values s ≡ g.values s

@@ -1,27 +1,24 @@
 -- Each way keeps what is known of what was settled in a window, and of a buffer.
-use Rattle.std.proofs.Common.{◌≡◌, ◌≢◌, ◌⊎◌, inl, inr, ℕ, ◌+◌, ◌<◌, ◌==◌, ◌&&◌, ◌||◌, not, if◌then◌else◌, Bool, true, false, Option, Some, None, List, ◌∷◌, [], ◌++◌, option_map, refl, sym, ap, ap₂, subst, ◌∙◌, arith}
+use Rattle.std.proofs.Common.{◌≡◌, inl, inr, ℕ, ◌==◌, ◌&&◌, ◌||◌, not, if◌then◌else◌, Bool, true, false, Option, Some, None, ◌∷◌, [], option_map, refl, sym, ap, ap₂, subst, ◌∙◌, arith}
 use Rattle.std.specs.Prelude.{is_some}
-use Rattle.std.specs.Str.{bytes_eq}
-use Rattle.std.proofs.lemmas.Bool.Decides.{nat_tests}
 use Rattle.std.proofs.lemmas.Slice.Eq.{bytes_eq-Decides}
 use Rattle.mdc_types.specs.Bits.{has_bit, with_bit}
-use Rattle.mdc_types.specs.Geometry.{Sizes, IsGeometry, chunk_of}
+use Rattle.mdc_types.specs.Geometry.{Sizes}
 use Rattle.mdc_types.specs.declared.numbers.Sector.{Sector}
 use Rattle.mdc_types.proofs.BitsLaws.{has_bit-with_bit}
-use Rattle.leg_failure.specs.Views.{is_target}
 use Rattle.leg_failure.proofs.SetLaws.{single_bit}
 use Rattle.mirror_io.specs.declared.live.LiveWrite.{LiveWrite}
-use Rattle.resync_worker.specs.Copying.{Passing, settled_at, covering_only, copied, filled, done_on}
+use Rattle.resync_worker.specs.Copying.{Passing, covering_only, copied, filled, done_on}
 use Rattle.resync_worker.specs.declared.buffer.Buffer.{Buffer}
 use Rattle.cluster_model.specs.State.{Copy}
-use Rattle.storage_ways.proofs.Parts.{Part, write_of, writes_at, has_pass, buffer_in, with_data, with_data_if, covers}
+use Rattle.storage_ways.proofs.Parts.{Part, write_of, writes_at, buffer_in, with_data, with_data_if, covers}
 use Rattle.storage_ways.proofs.Sound.{Sound}
 use Rattle.storage_ways.proofs.Roled.{covers_target}
 use Rattle.storage_ways.proofs.Ways.{Way, Buffers}
 use Rattle.storage_ways.proofs.Ways as ways
 use Rattle.laws_writes.proofs.Ghosts.{Ghost, ghost_after, undecided, is_among, is_open, same_sector}
 use Rattle.laws_writes.proofs.Windows.{Windows}
-use Rattle.laws_writes.proofs.Contents.{Contents, SettledDecided, CoveredSettled, BufferDone, is_settled, is_stale}
+use Rattle.laws_writes.proofs.Contents.{Contents, SettledDecided, CoveredSettled, BufferDone, is_stale}
 use Rattle.laws_writes.proofs.Flights.{is_same, same_nat, write_there}
 use Rattle.laws_writes.proofs.Races.{no_write_buffer}
 use Rattle.laws_writes.proofs.Moves.{Move, Settling, moves}
@@ -44,9 +41,9 @@ value_here g t s v e = ap (λ b. if b then v ∷ [] else g.values s) (ap (λ x. 
 
 pub settled_decided : (w v : Part) (x : Way w v) (g : Ghost) → Sound w → Windows w → Contents w g → SettledDecided v (ghost_after x g)
 settled_decided w v x g sound win con a s e = elim (settled_was w v x g sound win con a s e) [
-    | inl before ↦ ap is_open (stays_decided w v x g sound win con a s before) ∙ con.settled_decided a s before
-    | inr now ↦ here w v x now
-  ]
+  | inl before ↦ ap is_open (stays_decided w v x g sound win con a s before) ∙ con.settled_decided a s before
+  | inr now ↦ here w v x now
+]
   where
     here : (w v : Part) (x : Way w v) → Settling x a s → undecided (ghost_after x g) s ≡ false
     here w v (ways.settles n p b z) now = ap is_open (value_here g b.sector s b.value now.1)
@@ -60,11 +57,11 @@ fresh_is b e = grind arith
 
 pub covered_settled : (w v : Part) (x : Way w v) (g : Ghost) → Sound w → Windows w → Contents w g → CoveredSettled v (ghost_after x g)
 covered_settled w v x g sound win con a l s h e = elim (settled_was w v x g sound win con a s e) [
-    | inl before ↦
-        ap₂ (λ y z. not (is_among y z)) (stays_stored w v x g sound win con a s l before) (stays_decided w v x g sound win con a s before)
-        ∙ con.covered_settled a l s covered before
-    | inr now ↦ here w v x sound con covered now
-  ]
+  | inl before ↦
+      ap₂ (λ y z. not (is_among y z)) (stays_stored w v x g sound win con a s l before) (stays_decided w v x g sound win con a s before)
+      ∙ con.covered_settled a l s covered before
+  | inr now ↦ here w v x sound con covered now
+]
   where
     covered : covers w a l ≡ true
     covered = covered_was w v x sound win a l s h e

@@ -23,7 +23,6 @@ pub mod NeedSteps
 pub mod MarkSteps
 pub mod CoverSteps
 pub mod AgainSteps
-pub mod FirstMarks
 pub mod FirstKeepers
 pub mod First
 pub mod Values
@@ -34,9 +33,15 @@ pub mod WriterSteps
 pub mod BitSteps
 pub mod Kept
 pub mod Legal
+pub mod Written
+pub mod Runs
+pub mod Promises
 pub mod Chunks
 pub mod Races
 pub mod Moves
 pub mod PlaceSteps
 pub mod Behind
 pub mod CopySteps
+pub mod FlightSteps
+pub mod BrokeSteps
+pub mod ContentSteps

@@ -64,7 +64,7 @@ passes w stored Is n todo legs = moved w stored Is n (record (w.copy n) { pass =
 abbrev Nothing : ℕ → ℕ → Type 0
 Nothing a s = ⊥
 
-data_there : (stored : ℕ → ℕ → Sector) (l s : ℕ) (v : Sector) → with_data stored l s v l s ≡ v
+pub data_there : (stored : ℕ → ℕ → Sector) (l s : ℕ) (v : Sector) → with_data stored l s v l s ≡ v
 data_there stored l s v = ap₂ (λ x y. if x && y then v else stored l s) (same_nat l) (same_nat s)
 
 pub moves : (w v : Part) (x : Way w v) → Sound w → Windows w → (a : ℕ) → Move w.geometry v.stored (w.copy a) (v.copy a) (Settling x a)

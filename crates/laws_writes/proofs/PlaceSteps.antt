@@ -1,10 +1,10 @@
 -- Each way keeps where a pass stands in its window.
-use Rattle.std.proofs.Common.{◌≡◌, ◌⊎◌, inl, inr, ℕ, ◌+◌, ◌<◌, ◌==◌, ◌&&◌, if◌then◌else◌, Bool, true, false, Option, Some, None, option_map, refl, sym, ap, ap₂, subst, ◌∙◌, arith}
+use Rattle.std.proofs.Common.{◌≡◌, ℕ, ◌<◌, Bool, false, Option, Some, None, option_map, refl, sym, ap, subst, ◌∙◌, arith}
 use Rattle.mdc_types.specs.Geometry.{Sizes, IsGeometry, chunk_of}
 use Rattle.mdc_types.specs.declared.numbers.Range.{Range}
 use Rattle.mdc_types.specs.declared.numbers.Sector.{Sector}
 use Rattle.resync_worker.specs.Copying.{Passing, filled, copied, settled_at, covering_only, done_on}
-use Rattle.resync_worker.specs.Sectors.{is_behind, ends_chunk, reached_after, todo_after, first_chunk_in}
+use Rattle.resync_worker.specs.Sectors.{ends_chunk, todo_after, first_chunk_in}
 use Rattle.resync_worker.specs.declared.buffer.Buffer.{Buffer}
 use Rattle.cluster_model.specs.State.{Copy}
 use Rattle.cluster_model.specs.Copying.{next_for}

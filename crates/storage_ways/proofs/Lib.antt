@@ -30,3 +30,4 @@ pub mod SuperSteps
 pub mod Steps
 pub mod KeptSteps
 pub mod Runs
+pub mod Opening
