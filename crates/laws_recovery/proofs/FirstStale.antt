@@ -21,6 +21,7 @@ use Rattle.cluster_model.specs.Stored.{bit_on, data_on}
 use Rattle.cluster_model.specs.Opening.{Origin, IsOrigin, header_role, header_at, array_of, says_of}
 use Rattle.cluster_model.specs.Contents.{Opens, IsHeader, IsImages, AllTell, SoundOpening, MarksOnAll, works_at, some_mark, is_marked_slot, values_on, with_new, header_sector, slot_sector}
 use Rattle.laws_roles.proofs.InState.{working_role, faulty_role}
+use Rattle.laws_roles.specs.Laws.{Tells}
 use Rattle.storage_ways.proofs.Parts.{Part}
 use Rattle.laws_writes.proofs.Ghosts.{is_among, same_sector}
 use Rattle.laws_writes.proofs.First.{First}
@@ -156,7 +157,7 @@ module _ (o : Origin) (start : State) (sound : SoundOpening o start) where
       right : (b : Bool) → (true && not b) ≡ true → b ≡ false
       right b e = grind arith
 
-      by : (b : Bool) → nat_lt s o.sizes.room ≡ b → (b && not (is_among (data_on o.sizes start.legs l s) (if b then values_at o.base s else []))) ≡ true → is_among (data_on o.sizes start.legs l s) (get_or o.base s []) ≡ false
+      by : (b : Bool) → nat_lt s o.sizes.room ≡ b → (b && not (is_among (data_on o.sizes start.legs l s) (if b then values_at o.base s else zero_sector ∷ []))) ≡ true → is_among (data_on o.sizes start.legs l s) (get_or o.base s []) ≡ false
       by true t e = right (is_among (data_on o.sizes start.legs l s) (values_at o.base s)) e
       by false t e = cc
 
@@ -213,7 +214,7 @@ module _ (o : Origin) (start : State) (sound : SoundOpening o start) where
     | inr h ↦ ap (λ m. has_bit m (first_keeper o start.legs s)) h.nobody.0 ∙ no_bit (first_keeper o start.legs s)
   ]
 
-module _ (o : Origin) (start : State) (sound : SoundOpening o start) (sup : ℕ → Option Says) (home : ℕ) where
+module _ (o : Origin) (start : State) (sound : SoundOpening o start) (tells : Tells o start) (sup : ℕ → Option Says) (home : ℕ) where
   or_second : (a b : Bool) → b ≡ true → (a || b) ≡ true
   or_second a b e = grind arith
 
@@ -223,7 +224,7 @@ module _ (o : Origin) (start : State) (sound : SoundOpening o start) (sup : ℕ 
   abbrev pub first_since : Since
   first_since = record { since = λ n s. false }
 
-  pub first_stale : Stale (First o start sound sup home) (first_ghost o start.legs) first_hold first_since
+  pub first_stale : Stale (First o start sound tells sup home) (first_ghost o start.legs) first_hold first_since
   first_stale = record {
     not_stale = λ l s good. first_fresh o start sound l s good;
     buffer_value = λ n b e. cc;
@@ -240,7 +241,7 @@ module _ (o : Origin) (start : State) (sound : SoundOpening o start) (sup : ℕ 
     covered_fresh = λ n l s e lack some. cc;
   }
 
-  pub first_settled : Settled (First o start sound sup home) first_since
+  pub first_settled : Settled (First o start sound tells sup home) first_since
   first_settled = record {
     since_pass = λ n s some e. cc;
     since_settled = λ n s some e. cc;
