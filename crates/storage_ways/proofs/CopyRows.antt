@@ -25,7 +25,7 @@ use Rattle.cluster_model.specs.Gathering.{is_again, is_again_of, due_page, leg_t
 use Rattle.cluster_model.specs.Passes.{resync_guards, pass_guards, pass_again_guards, done_guards, ask_resync, pass_own, pass_full, pass_again, end_pass, open_window}
 use Rattle.cluster_model.specs.Phases.{is_in, is_up, is_unclean, offers}
 use Rattle.laws_sound.proofs.Guarded.{all_none, unless_none, refused_none, found_none}
-use Rattle.storage_ways.proofs.Parts.{with_data, with_data_if, decided_values, decided_there}
+use Rattle.storage_ways.proofs.Parts.{with_data, with_data_if, decided_values, decided_there, settled_there}
 use Rattle.storage_ways.proofs.Place.{Around, here, Place}
 use Rattle.storage_ways.proofs.Blocks.{retold, told_high}
 use Rattle.storage_ways.proofs.Guarding.{found_some, acked_by, all_targets, below_legs, not_asked, lock_alone, in_window, InWindow, with_buffer, WithBuffer, has_turn, none_open}
@@ -287,7 +287,7 @@ module _ (core : Core) (a : Around) (p : Place core a) where
       let done : missing_target (is_target (core.view n)) b.buffer ≡ None = subst (λ x. uncopied_target core n x ≡ None) b.of (refused_none NotWritten (uncopied_target core n (buffer_of core n)) g.1.1.1.0) in
       record { it = b; settles = record { buffers = b.buffers; done = all_targets core a p n (has_bit b.buffer.done) done } }
 
-  pub settle_way : (n : ℕ) (s : Settled n) → Way (here core a) (here (settle core n) (record a { values = decided_values a.values s.it.buffer.sector s.it.buffer.value; broken = decided_there a.broken s.it.buffer.sector }))
+  pub settle_way : (n : ℕ) (s : Settled n) → Way (here core a) (here (settle core n) (record a { values = decided_values a.values s.it.buffer.sector s.it.buffer.value; broken = decided_there a.broken s.it.buffer.sector; since = settled_there a.since s.it.buffer.sector }))
   settle_way n s =
-      subst (λ x. Way (here core a) (here (settle_buffer core n x) (record a { values = decided_values a.values s.it.buffer.sector s.it.buffer.value; broken = decided_there a.broken s.it.buffer.sector }))) (sym s.it.of)
+      subst (λ x. Way (here core a) (here (settle_buffer core n x) (record a { values = decided_values a.values s.it.buffer.sector s.it.buffer.value; broken = decided_there a.broken s.it.buffer.sector; since = settled_there a.since s.it.buffer.sector }))) (sym s.it.of)
       (settles n s.it.passing s.it.buffer s.settles)
