@@ -22,3 +22,5 @@ pub mod InState
 pub mod FirstStale
 pub mod KeptReads
 pub mod Asked
+pub mod Recovered
+pub mod Runs
