@@ -14,11 +14,12 @@ use Rattle.node_recovery.specs.Progress.{Recovering}
 use Rattle.resync_worker.specs.Copying.{Passing}
 use Rattle.resync_worker.specs.Sectors.{is_behind}
 use Rattle.resync_worker.specs.declared.buffer.Buffer.{Buffer}
+use Rattle.leg_failure.specs.Views.{works}
 use Rattle.plain_history.specs.History.{IsIn}
 use Rattle.cluster_model.specs.State.{State, Offer, sizes}
 use Rattle.cluster_model.specs.Copying.{buffer_of, buffer_in as core_buffer_in}
 use Rattle.cluster_model.specs.Gathering.{is_again_of}
-use Rattle.cluster_model.specs.Phases.{is_metadata, offers}
+use Rattle.cluster_model.specs.Phases.{is_metadata, is_up, offers}
 use Rattle.cluster_model.specs.Served.{NoTrustedLegIsStale, Missed, Marked, MarkedOnTrusted, Stale, Trusted, CalledFaulty, CalledIn}
 use Rattle.cluster_model.specs.Stored.{bit_on, data_on}
 use Rattle.laws_roles.proofs.InState.{up_in, same_leg}
@@ -27,6 +28,7 @@ use Rattle.laws_roles.proofs.Parts.{number, said_role, changes_super, offered_ro
 use Rattle.storage_ways.proofs.Moving.{Traced, around}
 use Rattle.storage_ways.proofs.Parts.{Part, found_in, chunk_in, todo_in, buffer_in, reached_in, recovers, is_heir}
 use Rattle.storage_ways.proofs.Place.{Around, here, Place, sound_of}
+use Rattle.storage_ways.proofs.Roled.{up_served_good}
 use Rattle.storage_ways.proofs.Sound.{Sound}
 use Rattle.laws_writes.proofs.Ghosts.{Ghost, is_among}
 use Rattle.laws_writes.proofs.Contents.{is_stale}
@@ -76,6 +78,10 @@ module _ (state : State) (rg : roles.Ghost) (tr : Traced) (p : Place state.core 
 
   pub serves_fresh : NoTrustedLegIsStale state tr.values
   serves_fresh l s leg lt t = holds_by l s lt (a.stale.not_stale l s (trusted_good state rg tr p l t))
+
+  -- what an up node reads from holds a candidate
+  pub served_holds : (n l s : ℕ) → is_up (state.core.state n) ≡ true → works (state.core.view n) l ≡ true → s < (sizes state.core).room → Holds state tr.values l s
+  served_holds n l s up works_there lt = holds_by l s lt (a.stale.not_stale l s (up_served_good W a.sound n l up works_there))
 
   -- a slot with a bit on each good leg marks the chunk on each leg that may be read
   marks_all : (k s : ℕ) → ((x : ℕ) → rg.good x ≡ true → W.bit k (chunk_of (sizes state.core) s) x ≡ true) → MarkedOnTrusted state k s

@@ -24,3 +24,5 @@ pub mod KeptReads
 pub mod Asked
 pub mod Recovered
 pub mod Runs
+pub mod Legal
+pub mod Promises

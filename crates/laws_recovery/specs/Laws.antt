@@ -17,6 +17,7 @@ use Rattle.cluster_model.specs.State.{State, Offer, sizes}
 use Rattle.cluster_model.specs.Copying.{buffer_of}
 use Rattle.cluster_model.specs.Served.{NoTrustedLegIsStale, Missed, Marked, MarkedOnTrusted, Stale}
 use Rattle.cluster_model.specs.Stored.{data_on}
+use Rattle.storage_ways.specs.Since.{since_in}
 use Rattle.laws_roles.specs.Agreed.{Agreed, agreed_in}
 use Rattle.laws_writes.specs.Laws.{Always}
 
@@ -92,3 +93,20 @@ AgainHolds agreed values state = (n l s : ℕ) → (state.core.adding n).additio
 
 abbrev pub RunsAddAgain : Type 0
 RunsAddAgain = Always (λ o start past end. AgainHolds (agreed_in o past) (candidates (values_at o.base) past) end)
+
+-- An open recovery.
+
+-- its slot is pending and its node the heir, and each chunk that it has read is in its node's set
+-- and to be copied, or each sector of the chunk was settled since the recovery began
+pub record RecoveryHolds (past : List Entry) (state : State) : Type 0 where
+  pub slot : (n : ℕ) (r : Recovering) → state.core.recovery n ≡ Some r
+      → state.core.members.pending r.slot ≡ true
+  pub heir : (n : ℕ) (r : Recovering) → state.core.recovery n ≡ Some r
+      → state.core.members.heir r.slot ≡ Some n
+  pub found : (n c : ℕ) (r : Recovering) → state.core.recovery n ≡ Some r → r.found c ≡ true
+      → (((state.core.bitmap n).set c ≡ true) × ((state.core.bitmap n).need c ≡ true))
+      ⊎ ((s : ℕ) → s < (sizes state.core).room → chunk_of (sizes state.core) s ≡ c
+          → since_in past n s ≡ true)
+
+abbrev pub RunsRecover : Type 0
+RunsRecover = Always (λ o start past end. RecoveryHolds past end)
