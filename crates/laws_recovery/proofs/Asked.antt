@@ -1,5 +1,5 @@
 -- The asked reads of the plain history are those in flight, along each run.
-use Rattle.std.proofs.Common.{◌≡◌, ℕ, ◌+◌, ◌==◌, ◌&&◌, ◌≤◌, ◌<◌, Bool, true, false, if◌then◌else◌, List, [], ◌∷◌, ◌++◌, Option, Some, None, refl, sym, ap, subst, ◌∙◌, arith}
+use Rattle.std.proofs.Common.{◌≡◌, ℕ, ◌+◌, ◌==◌, ◌&&◌, ◌≤◌, Bool, true, false, if◌then◌else◌, List, [], ◌∷◌, ◌++◌, Option, Some, None, refl, sym, ap, subst, ◌∙◌, arith}
 use Rattle.std.specs.Prelude.{is_some}
 use Rattle.std.proofs.Math.Path.{fun_ext}
 use Rattle.std.proofs.lemmas.Bool.Decides.{nat_tests}
@@ -27,11 +27,11 @@ use Rattle.cluster_model.specs.After.{after}
 use Rattle.cluster_model.specs.Contents.{Opens}
 use Rattle.cluster_model.specs.Failures.{lost_or_io}
 use Rattle.cluster_model.specs.Opening.{Origin}
-use Rattle.cluster_model.specs.Outcomes.{outcome_of, outcome_read}
+use Rattle.cluster_model.specs.Outcomes.{outcome_of}
 use Rattle.cluster_model.specs.Changes.{headed}
 use Rattle.cluster_model.specs.Phases.{is_in, is_up}
-use Rattle.cluster_model.specs.Reads.{given_leg, in_done, in_guards, end_read, read_sector, reads_first}
-use Rattle.cluster_model.specs.Run.{Run, Step, Moves, Quiet, Written, Read, Failed, Left}
+use Rattle.cluster_model.specs.Reads.{given_leg, in_guards, end_read, read_sector, reads_first}
+use Rattle.cluster_model.specs.Run.{Run, Moves, Quiet, Written, Read, Failed, Left}
 use Rattle.cluster_model.specs.Transfers.{Transfer, transfer_of, in_transfer, reads_at, reads_from}
 use Rattle.cluster_model.specs.Table.{refusal}
 use Rattle.laws_roles.proofs.Known.{Known, known}

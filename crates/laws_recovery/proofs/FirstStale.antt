@@ -1,28 +1,25 @@
 -- At a sound opening no leg that works is stale, and a pending slot answers for what a faulty leg lacks.
-use Rattle.std.proofs.Common.{zero, suc, ◌≡◌, ◌⊎◌, inl, inr, ℕ, ◌<◌, ◌≤◌, ◌+◌, ◌==◌, ◌&&◌, ◌||◌, not, if◌then◌else◌, Bool, true, false, length, List, [], ◌∷◌, Option, Some, None, refl, sym, ap, subst, ◌∙◌, arith}
-use Rattle.std.specs.Prelude.{nat_lt, nat_le, get_or, is_some, replicate, unwrap_or}
-use Rattle.std.specs.Str.{bytes_eq}
+use Rattle.std.proofs.Common.{zero, suc, ◌≡◌, inl, inr, ℕ, ◌<◌, ◌≤◌, ◌+◌, ◌==◌, ◌&&◌, ◌||◌, not, if◌then◌else◌, Bool, true, false, List, [], ◌∷◌, Option, refl, sym, ap, subst, ◌∙◌, arith}
+use Rattle.std.specs.Prelude.{nat_lt, nat_le, get_or, unwrap_or}
 use Rattle.std.proofs.lemmas.Bool.{cases_lt}
 use Rattle.std.proofs.lemmas.Bool.Decides.{nat_tests}
 use Rattle.std.proofs.lemmas.List.{get_or-replicate}
 use Rattle.slot_pages.proofs.GrammarLaws.{no_bit}
-use Rattle.dlm_modes.specs.First.{each_such, first_such}
+use Rattle.dlm_modes.specs.First.{first_such}
 use Rattle.mdc_types.specs.Bits.{has_bit}
-use Rattle.mdc_types.specs.Geometry.{Sizes, nodes_of, chunks_of, chunk_of, data_offset, data_offset_of, length_of}
+use Rattle.mdc_types.specs.Geometry.{nodes_of, chunks_of, chunk_of, data_offset, data_offset_of}
 use Rattle.mdc_types.specs.Roles.{role_of, eight, is_working, is_faulty}
 use Rattle.mdc_types.specs.Sectors.{zero_sector}
 use Rattle.mdc_types.specs.declared.numbers.Sector.{Sector}
 use Rattle.mdc_types.specs.declared.roles.Role.{Role}
-use Rattle.mdc_types.specs.declared.roles.Role.TheVariants.{Working, Spare, Faulty}
 use Rattle.md_superblock.specs.Arrays.{Says, spelled, super_for}
-use Rattle.plain_history.specs.History.{values_at, IsIn}
+use Rattle.plain_history.specs.History.{values_at}
 use Rattle.cluster_model.specs.State.{State, Legs}
 use Rattle.cluster_model.specs.Stored.{bit_on, data_on}
-use Rattle.cluster_model.specs.Opening.{Origin, IsOrigin, header_role, header_at, array_of, says_of}
-use Rattle.cluster_model.specs.Contents.{Opens, IsHeader, IsImages, AllTell, SoundOpening, MarksOnAll, works_at, some_mark, is_marked_slot, values_on, with_new, header_sector, slot_sector}
+use Rattle.cluster_model.specs.Opening.{Origin, header_role, array_of, says_of}
+use Rattle.cluster_model.specs.Contents.{IsHeader, SoundOpening, MarksOnAll, works_at, some_mark, is_marked_slot, values_on, with_new, header_sector, slot_sector}
 use Rattle.laws_roles.proofs.InState.{working_role, faulty_role}
 use Rattle.laws_roles.specs.Laws.{Tells}
-use Rattle.storage_ways.proofs.Parts.{Part}
 use Rattle.laws_writes.proofs.Ghosts.{is_among, same_sector}
 use Rattle.laws_writes.proofs.First.{First}
 use Rattle.laws_writes.proofs.FirstKeepers.{first_ghost, first_keeper, first_values, marks_all, each_one, each_from, found_one, found_passes, given_or, or_given, working_below}
@@ -31,7 +28,7 @@ use Rattle.laws_writes.proofs.Settled.{Since, Settled}
 use Rattle.laws_writes.proofs.Values.{in_among}
 use Rattle.laws_recovery.proofs.Ghosts.{Hold}
 use Rattle.laws_recovery.proofs.Points.{clash}
-use Rattle.laws_recovery.proofs.Stale.{Stale, lacks}
+use Rattle.laws_recovery.proofs.Stale.{Stale}
 use Rattle.laws_recovery.proofs.Values.{same_self}
 
 -- The values of images.

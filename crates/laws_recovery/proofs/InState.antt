@@ -1,15 +1,12 @@
 -- What follows of stale legs in one state.
-use Rattle.std.proofs.Common.{◌≡◌, ◌⊎◌, inl, inr, ℕ, ◌+◌, ◌*◌, ◌<◌, ◌≤◌, ◌==◌, ◌&&◌, ◌||◌, not, Bool, true, false, List, Option, Some, None, refl, sym, ap, subst, ◌∙◌, arith}
-use Rattle.std.specs.Prelude.{is_some, nat_lt, nat_le}
+use Rattle.std.proofs.Common.{◌≡◌, ◌⊎◌, inl, inr, ℕ, ◌+◌, ◌*◌, ◌<◌, ◌≤◌, ◌==◌, ◌&&◌, ◌||◌, not, Bool, true, false, Option, Some, None, refl, sym, ap, subst, ◌∙◌, arith}
+use Rattle.std.specs.Prelude.{is_some, nat_lt}
 use Rattle.std.proofs.lemmas.Bool.{cases_lt}
 use Rattle.std.proofs.lemmas.Bool.Decides.{nat_tests}
 use Rattle.mdc_types.specs.Geometry.{chunk_of, page_of, pages_of, nodes_of}
-use Rattle.mdc_types.specs.Roles.{role_of, is_working, is_faulty, is_written}
-use Rattle.mdc_types.specs.declared.events.Wish.{Wish}
+use Rattle.mdc_types.specs.Roles.{is_working, is_faulty}
 use Rattle.mdc_types.specs.declared.events.Wish.TheVariants as wishes
-use Rattle.mdc_types.specs.declared.numbers.Sector.{Sector}
-use Rattle.mdc_types.specs.declared.roles.Role.TheVariants.{Working, Faulty}
-use Rattle.disk_addition.specs.declared.addition.Addition.TheVariants.{Again}
+use Rattle.mdc_types.specs.declared.roles.Role.TheVariants.{Faulty}
 use Rattle.node_recovery.specs.Progress.{Recovering}
 use Rattle.resync_worker.specs.Copying.{Passing}
 use Rattle.resync_worker.specs.Sectors.{is_behind}
@@ -19,27 +16,26 @@ use Rattle.plain_history.specs.History.{IsIn}
 use Rattle.cluster_model.specs.State.{State, Offer, sizes}
 use Rattle.cluster_model.specs.Copying.{buffer_of, buffer_in as core_buffer_in}
 use Rattle.cluster_model.specs.Gathering.{is_again_of}
-use Rattle.cluster_model.specs.Phases.{is_metadata, is_up, offers}
-use Rattle.cluster_model.specs.Served.{NoTrustedLegIsStale, Missed, Marked, MarkedOnTrusted, Stale, Trusted, CalledFaulty, CalledIn}
+use Rattle.cluster_model.specs.Phases.{is_metadata, is_up}
+use Rattle.cluster_model.specs.Served.{NoTrustedLegIsStale, Missed, MarkedOnTrusted, Stale, CalledFaulty, CalledIn}
 use Rattle.cluster_model.specs.Stored.{bit_on, data_on}
 use Rattle.laws_roles.proofs.InState.{up_in, same_leg}
 use Rattle.laws_roles.proofs.Parts as roles
 use Rattle.laws_roles.proofs.Parts.{number, said_role, changes_super, offered_role, promotes, wished, covered_by}
 use Rattle.storage_ways.proofs.Moving.{Traced, around}
-use Rattle.storage_ways.proofs.Parts.{Part, found_in, chunk_in, todo_in, buffer_in, reached_in, recovers, is_heir}
-use Rattle.storage_ways.proofs.Place.{Around, here, Place, sound_of}
+use Rattle.storage_ways.proofs.Parts.{Part, found_in, todo_in, buffer_in, reached_in, recovers, is_heir}
+use Rattle.storage_ways.proofs.Place.{here, Place}
 use Rattle.storage_ways.proofs.Roled.{up_served_good}
-use Rattle.storage_ways.proofs.Sound.{Sound}
 use Rattle.laws_writes.proofs.Ghosts.{Ghost, is_among}
 use Rattle.laws_writes.proofs.Contents.{is_stale}
 use Rattle.laws_writes.proofs.Kept.{trusted_good, some_good}
 use Rattle.laws_writes.proofs.Settled.{Since}
-use Rattle.laws_writes.proofs.Values.{ValuesAre, among_in, in_among}
-use Rattle.laws_recovery.specs.Laws.{RebuildHolds, IsLeft, slot_left, read_left, Holds, AgainHolds, Answers, IsFound, was_gathered, will_be_gathered, slot_found, read_found}
+use Rattle.laws_writes.proofs.Values.{ValuesAre, among_in}
+use Rattle.laws_recovery.specs.Laws.{RebuildHolds, IsLeft, slot_left, read_left, Holds, AgainHolds, IsFound, was_gathered, will_be_gathered, slot_found, read_found}
 use Rattle.laws_recovery.proofs.Ghosts.{Hold}
 use Rattle.laws_recovery.proofs.Known.{Known}
 use Rattle.laws_recovery.proofs.Points.{clash}
-use Rattle.laws_recovery.proofs.Stale.{lacks, arm}
+use Rattle.laws_recovery.proofs.Stale.{lacks}
 
 both : (a b : Bool) → (a && b) ≡ true → (a ≡ true) × (b ≡ true)
 both a b e = grind arith

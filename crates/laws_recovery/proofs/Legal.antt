@@ -1,5 +1,5 @@
 -- Reads and settles give candidates, in one state.
-use Rattle.std.proofs.Common.{◌≡◌, ℕ, ◌<◌, ◌+◌, Bool, true, false, if◌then◌else◌, List, Option, Some, None, refl, sym, ap, subst, ◌∙◌, arith}
+use Rattle.std.proofs.Common.{◌≡◌, ℕ, Bool, true, false, if◌then◌else◌, List, Option, Some, None, refl, sym, ap, subst, ◌∙◌}
 use Rattle.mdc_types.specs.declared.events.Event.{Event}
 use Rattle.mdc_types.specs.declared.events.Event.TheVariants as events
 use Rattle.mdc_types.specs.declared.numbers.Sector.{Sector}
@@ -10,14 +10,13 @@ use Rattle.mirror_io.specs.Flight.{read_in}
 use Rattle.mirror_io.specs.declared.live.LiveRead.{LiveRead}
 use Rattle.resync_worker.specs.declared.buffer.Buffer.{Buffer}
 use Rattle.plain_history.specs.History.{PlainWrite, LegalEntry, IsReadable, IsAsked, IsIn}
-use Rattle.cluster_model.specs.State.{State, Core, Legs, sizes, place_of}
+use Rattle.cluster_model.specs.State.{State, Legs, sizes, place_of}
 use Rattle.cluster_model.specs.Copying.{buffer_of, settled_with}
 use Rattle.cluster_model.specs.Failures.{failure}
 use Rattle.cluster_model.specs.Reads.{read_sector}
-use Rattle.cluster_model.specs.Run.{Moves, Quiet, Written, Read, Failed, Left, Gives}
+use Rattle.cluster_model.specs.Run.{Moves, Quiet, Written, Read, Failed, Left}
 use Rattle.cluster_model.specs.Stored.{data_on}
-use Rattle.cluster_model.specs.Table.{refusal}
-use Rattle.cluster_model.specs.Transfers.{Transfer, transfer_of, reads_from}
+use Rattle.cluster_model.specs.Transfers.{Transfer}
 use Rattle.laws_recovery.specs.Laws.{Holds}
 use Rattle.laws_recovery.proofs.Asked.{Reads, reading}
 

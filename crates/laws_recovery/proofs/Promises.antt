@@ -1,22 +1,19 @@
 -- The laws.
-use Rattle.std.proofs.Common.{◌≡◌, ◌⊎◌, ℕ, inl, inr, ◌<◌, true, List, [], ◌∷◌, Option, Some, None, refl, sym, ap, subst, ◌∙◌}
+use Rattle.std.proofs.Common.{◌≡◌, ◌⊎◌, ℕ, inl, inr, ◌<◌, true, List, [], ◌∷◌, None, sym, subst, ◌∙◌}
 use Rattle.mdc_types.specs.Geometry.{chunk_of}
 use Rattle.mdc_types.specs.declared.events.Event.{Event}
 use Rattle.mdc_types.specs.declared.events.Event.TheVariants as events
-use Rattle.mdc_types.specs.declared.numbers.Sector.{Sector}
 use Rattle.mdc_types.specs.declared.outcomes.Outcome.{Outcome}
 use Rattle.mdc_types.specs.declared.outcomes.Entry.{Entry}
 use Rattle.md_superblock.specs.Arrays.{Array}
-use Rattle.mirror_io.specs.Flight.{read_in}
-use Rattle.mirror_io.specs.declared.live.LiveRead.{LiveRead}
-use Rattle.plain_history.specs.History.{Legal, LegalAfter, LegalEntry, PlainWrite, candidates, values_at, live_writes, asked_reads}
+use Rattle.plain_history.specs.History.{Legal, LegalEntry, candidates, values_at, asked_reads}
 use Rattle.cluster_model.specs.State.{State, sizes, place_of}
 use Rattle.cluster_model.specs.Contents.{SoundOpening}
 use Rattle.cluster_model.specs.Opening.{Origin, array_of}
 use Rattle.cluster_model.specs.Run.{Run, Step}
 use Rattle.cluster_model.specs.Served.{NoTrustedLegIsStale, Missed}
 use Rattle.cluster_model.specs.Table.{refusal}
-use Rattle.cluster_model.specs.Transfers.{transfer_of, reads_from}
+use Rattle.cluster_model.specs.Transfers.{reads_from}
 use Rattle.laws_roles.specs.Agreed.{Agreed, agreed_in}
 use Rattle.laws_roles.specs.Laws.{Tells}
 use Rattle.laws_roles.proofs.Known.{known}
@@ -100,9 +97,10 @@ module _ (o : Origin) (start end : State) (past : List Entry) (sound : SoundOpen
   given_here n k ok r =
       let all = known o start end past sound.opens run in
       let below = ((all.range.flight.requests n).read_sectors k r.read r.found).0 in
-      let leg = transfer_leg end.core (events.In n k) (reads_from n r.leg (place_of end.core r.read.sector)) all.range.legs ok r.transfer in
-      (served_holds end rg tr place_here g h z known_here recovered_here.written.values n r.leg r.read.sector r.up r.works below,
-      legs_tell start end past run r.leg ∙ tells.legs r.leg (subst (λ (a : Array). r.leg < a.sizes.legs) array leg))
+      let leg = transfer_leg end.core (events.In n k) (reads_from n r.leg (place_of end.core r.read.sector)) all.range.legs ok r.transfer in (
+        served_holds end rg tr place_here g h z known_here recovered_here.written.values n r.leg r.read.sector r.up r.works below,
+        legs_tell start end past run r.leg ∙ tells.legs r.leg (subst (λ (a : Array). r.leg < a.sizes.legs) array leg),
+      )
 
   entry_here : (new : State) (x : Entry) → Step end x.event x.outcome new → LegalEntry (flying end.core.writes) (reading end.core.reads) (candidates (values_at o.base) past) x.event x.outcome
   entry_here new x s = by x.event x.outcome s
@@ -117,11 +115,12 @@ module _ (o : Origin) (start end : State) (past : List Entry) (sound : SoundOpen
 
 legal_here : (o : Origin) (start end : State) (past : List Entry) → SoundOpening o start → Tells o start → Run start past end → Legal (values_at o.base) past
 legal_here o start end [] sound tells run = tt
-legal_here o start end (x ∷ past) sound tells run =
-    (subst (λ f. LegalEntry f (asked_reads past) (candidates (values_at o.base) past) x.event x.outcome) (sym (live_are o start run.0 past sound.opens run.1))
-    (subst (λ f. LegalEntry (flying run.0.core.writes) f (candidates (values_at o.base) past) x.event x.outcome) (sym (asked_are o start run.0 past sound.opens run.1))
-    (entry_here o start run.0 past sound tells run.1 end x run.2)),
-    legal_here o start run.0 past sound tells run.1)
+legal_here o start end (x ∷ past) sound tells run = (
+  subst (λ f. LegalEntry f (asked_reads past) (candidates (values_at o.base) past) x.event x.outcome) (sym (live_are o start run.0 past sound.opens run.1))
+      (subst (λ f. LegalEntry (flying run.0.core.writes) f (candidates (values_at o.base) past) x.event x.outcome) (sym (asked_are o start run.0 past sound.opens run.1))
+      (entry_here o start run.0 past sound tells run.1 end x run.2)),
+  legal_here o start run.0 past sound tells run.1,
+)
 
 -- The laws.
 

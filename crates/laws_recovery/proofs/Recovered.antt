@@ -1,5 +1,5 @@
 -- All that is known of writes and of stale legs, along some ways.
-use Rattle.std.proofs.Common.{◌≡◌, ℕ, ◌==◌, Bool, true, false, if◌then◌else◌, refl, arith}
+use Rattle.std.proofs.Common.{◌≡◌, ℕ, ◌==◌, Bool, true, false, if◌then◌else◌, refl}
 use Rattle.storage_ways.proofs.Parts.{Part}
 use Rattle.storage_ways.proofs.Sound.{Sound}
 use Rattle.storage_ways.proofs.Ways.{Way, Ways}

@@ -1,17 +1,15 @@
 -- What is known of stale legs, along each run.
-use Rattle.std.proofs.Common.{◌≡◌, ℕ, List, [], ◌∷◌, refl, sym, ap, subst, ◌∙◌}
+use Rattle.std.proofs.Common.{List, [], ◌∷◌, refl, sym, subst}
 use Rattle.mdc_types.specs.declared.outcomes.Entry.{Entry}
-use Rattle.cluster_model.specs.State.{State, Core}
+use Rattle.cluster_model.specs.State.{State}
 use Rattle.cluster_model.specs.Contents.{SoundOpening}
-use Rattle.cluster_model.specs.Opening.{Origin, array_of, core_at}
+use Rattle.cluster_model.specs.Opening.{Origin, array_of}
 use Rattle.cluster_model.specs.Run.{Run}
 use Rattle.laws_roles.specs.Laws.{Tells}
 use Rattle.laws_roles.proofs.Parts.{supers}
 use Rattle.storage_ways.proofs.Place.{here}
 use Rattle.storage_ways.proofs.Runs as ways_runs
 use Rattle.storage_ways.proofs.Runs.{around_at, At, run_ways}
-use Rattle.laws_writes.proofs.Ghosts.{Ghost}
-use Rattle.laws_writes.proofs.FirstKeepers.{first_ghost}
 use Rattle.laws_writes.proofs.Runs.{ghost_of, written}
 use Rattle.laws_writes.proofs.Settled.{Since, Settled}
 use Rattle.laws_recovery.proofs.FirstStale.{first_hold, first_since, first_stale, first_settled}
