@@ -9,6 +9,7 @@ use Rattle.laws_writes.proofs.BitSteps.{bits_step}
 use Rattle.laws_writes.proofs.Windows.{Windows}
 use Rattle.laws_writes.proofs.WindowSteps.{windows_step}
 use Rattle.laws_writes.proofs.Contents.{Contents}
+use Rattle.laws_writes.proofs.ContentSteps.{contents_step}
 use Rattle.laws_writes.proofs.Pages.{Pages}
 use Rattle.laws_writes.proofs.PageSteps.{pages_step}
 use Rattle.laws_writes.proofs.Intent.{Intents}
@@ -28,7 +29,7 @@ pub written_way : (w v : Part) (x : Way w v) (g : Ghost) → Sound w → Written
 written_way w v x g s h = record {
   bits = bits_step w v x s h.bits;
   windows = windows_step w v x s h.windows;
-  contents = ?;
+  contents = contents_step w v x g s h.bits h.windows h.contents;
   pages = pages_step w v x s h.pages;
   intents = intents_step w v x g s h.bits h.contents h.pages h.intents;
   values = values_step w v x g h.values;
