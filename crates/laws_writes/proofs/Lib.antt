@@ -13,7 +13,7 @@ pub mod WindowSteps
 pub mod Recoverers
 pub mod PageSteps
 pub mod Places
-pub mod FreeSectors
+pub mod Points
 pub mod UndecidedSteps
 pub mod Heirs
 pub mod KeeperSteps

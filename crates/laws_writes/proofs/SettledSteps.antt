@@ -1,7 +1,7 @@
 -- Each way keeps what is known of the sectors that were settled since a recovery began.
-use Rattle.std.proofs.Common.{◌≡◌, ◌≢◌, ℕ, ◌+◌, ◌-◌, ◌*◌, ◌/◌, ◌==◌, ◌<◌, ◌≤◌, ◌&&◌, ◌||◌, not, Bool, true, false, if◌then◌else◌, Option, Some, None, refl, sym, ap, subst, ◌∙◌, arith}
-use Rattle.std.specs.Prelude.{is_some, option_map, nat_lt}
-use Rattle.std.proofs.Math.Nat.{div-mul-le_self, lt-div-mul-add}
+use Rattle.std.proofs.Common.{◌≡◌, ◌≢◌, ℕ, ◌+◌, ◌-◌, ◌*◌, ◌/◌, ◌==◌, ◌<◌, ◌≤◌, ◌&&◌, ◌||◌, Bool, true, false, if◌then◌else◌, Option, Some, None, refl, sym, ap, subst, ◌∙◌, arith}
+use Rattle.std.specs.Prelude.{is_some, option_map}
+use Rattle.std.proofs.Math.Nat.{lt-div-mul-add}
 use Rattle.std.proofs.lemmas.Bool.Decides.{nat_tests}
 use Rattle.std.proofs.lemmas.Nat.{div-mul-add}
 use Rattle.dlm_modes.specs.Points.{with_at}
@@ -15,31 +15,17 @@ use Rattle.resync_worker.specs.declared.buffer.Buffer.{Buffer}
 use Rattle.resync_worker.proofs.SectorLaws.{is_behind-restarted, is_behind-settled}
 use Rattle.cluster_model.specs.Changes.{no_copy}
 use Rattle.cluster_model.specs.Copying.{need_met}
-use Rattle.cluster_model.specs.State.{Copy, Held}
+use Rattle.cluster_model.specs.State.{Copy}
 use Rattle.storage_ways.proofs.Parts.{Part, chunk_in, has_pass, found_in, reached_in}
 use Rattle.storage_ways.proofs.Sound.{Sound}
 use Rattle.storage_ways.proofs.Ways as ways
 use Rattle.storage_ways.proofs.Ways.{Way, Settles}
-use Rattle.laws_writes.proofs.Contents.{Contents, is_settled}
+use Rattle.laws_writes.proofs.Contents.{Contents}
 use Rattle.laws_writes.proofs.Ghosts.{Ghost}
 use Rattle.laws_writes.proofs.Places.{before_next, past_last, chunk_some}
+use Rattle.laws_writes.proofs.Points.{at_point, either_if, same_point, clash}
 use Rattle.laws_writes.proofs.Settled.{Since, since_after, Settled, SincePass, SinceSettled, ReadNeed}
 use Rattle.laws_writes.proofs.Settling.{need_met_at}
-
--- At a point that changes.
-
-either_if : {A : Type 0} (P : A → Type 0) (b : Bool) (v u : A) → (b ≡ true → P v) → (b ≡ false → P u) → P (if b then v else u)
-either_if P true v u new old = new refl
-either_if P false v u new old = old refl
-
-same_point : (m n : ℕ) → (m == n) ≡ true → m ≡ n
-same_point m n e = grind (arith, nat_tests)
-
-at_point : {A : Type 0} (P : A → Type 0) (f : ℕ → A) (n : ℕ) (v : A) (m : ℕ) → (m ≡ n → P v) → ((m == n) ≡ false → P (f m)) → P (with_at f n v m)
-at_point P f n v m new old = either_if P (m == n) v (f m) (λ e. new (same_point m n e)) old
-
-clash : (b : Bool) → b ≡ true → b ≡ false → ⊥
-clash b t f = cc
 
 still_some : (f : Passing → Passing) (x : Option Passing) → is_some x ≡ true → is_some (option_map f x) ≡ true
 still_some f None e = cc
@@ -177,7 +163,7 @@ module _ (w : Part) (g : Ghost) (z : Since) (s : Sound w) (c : Contents w g) (a 
       → (if t == b.sector then true else z.since m t) ≡ true
   settled_place n m p b e t some = at_point (λ y. settled_in w.geometry y t ≡ true → (if t == b.sector then true else z.since m t) ≡ true) w.copy n _ m
       (λ is here. subst (λ j. (if t == b.sector then true else z.since j t) ≡ true) (sym is)
-          (settled_since n p b e t (subst (λ j. is_some (w.recovery j) ≡ true) is some) (reached (w.copy n).pass here)))
+      (settled_since n p b e t (subst (λ j. is_some (w.recovery j) ≡ true) is some) (reached (w.copy n).pass here)))
       (λ apart here. either_if (λ y. y ≡ true) (t == b.sector) true (z.since m t) (λ e. refl) (λ other. a.since_settled m t some here))
     where
       reached : (x : Option Passing) → (is_some (option_map (λ q. settled_at w.geometry q b) x) && is_behind w.geometry (reached_in (option_map (λ q. settled_at w.geometry q b) x)) t) ≡ true
@@ -219,7 +205,7 @@ since_settled w v (ways.settles n p b e) s g c z a m t some place = settled_plac
 since_settled w v (ways.ends_pass n e) s g c z a m t some place = a.since_settled m t some (place_at w.geometry w.copy n m t no_copy (λ e. cc) place)
 since_settled w v (ways.recovers_slot n d e) s g c z a m t some place = begun_or (m == n) (z.since m t) (λ apart. a.since_settled m t (begun_else apart) place)
     (λ is. let none : has_pass (w.copy m) ≡ false = ap (λ j. has_pass (w.copy j)) (same_point m n is) ∙ ap is_some e.pass in
-        clash (has_pass (w.copy m)) (and_left (has_pass (w.copy m)) _ place) none)
+    clash (has_pass (w.copy m)) (and_left (has_pass (w.copy m)) _ place) none)
   where
     begun_else : (m == n) ≡ false → is_some (w.recovery m) ≡ true
     begun_else e = grind arith
