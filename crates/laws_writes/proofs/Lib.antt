@@ -19,6 +19,7 @@ pub mod Heirs
 pub mod KeeperSteps
 pub mod Settling
 pub mod SettledSteps
+pub mod ReadNeedSteps
 pub mod NeedSteps
 pub mod MarkSteps
 pub mod CoverSteps
