@@ -42,3 +42,4 @@ pub mod CopySteps
 pub mod FlightSteps
 pub mod BrokeSteps
 pub mod ContentSteps
+pub mod Headers

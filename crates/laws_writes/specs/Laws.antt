@@ -18,7 +18,7 @@ use Rattle.suspend_ranges.specs.Suspended.{entry_of}
 use Rattle.plain_history.specs.History.{candidates, values_at, LegalAfter}
 use Rattle.cluster_model.specs.State.{State, Offer, sizes}
 use Rattle.cluster_model.specs.Changes.{resync_res}
-use Rattle.cluster_model.specs.Contents.{SoundOpening}
+use Rattle.cluster_model.specs.Contents.{SoundOpening, Opens, IsHeader, AllTell}
 use Rattle.cluster_model.specs.Copying.{buffer_of}
 use Rattle.cluster_model.specs.Opening.{Origin}
 use Rattle.cluster_model.specs.Run.{Run}
@@ -31,6 +31,11 @@ use Rattle.storage_ways.specs.Broken.{broken_in}
 abbrev pub Always : (Origin → State → List Entry → State → Type 0) → Type 0
 Always Holds = (o : Origin) (start end : State) (past : List Entry)
     → SoundOpening o start → Tells o start → Run start past end → Holds o start past end
+
+-- the opening of a header is sound, where its legs tell their contents
+abbrev pub HeadersAreSound : Type 0
+HeadersAreSound = (o : Origin) (start : State)
+    → Opens o start → IsHeader o start.legs → AllTell o start.legs → SoundOpening o start
 
 -- one slot of a node that is live, or waits for its recovery, marks the chunk of each sector with
 -- two candidates on each leg that may be read
