@@ -35,6 +35,7 @@ pub mod Runs
 pub mod Promises
 pub mod Chunks
 pub mod Races
+pub mod Free
 pub mod Moves
 pub mod PlaceSteps
 pub mod Behind
