@@ -1,22 +1,18 @@
 -- Writes are asked where no other is live, and end after their start while they are live.
-use Rattle.std.proofs.Common.{◌≡◌, ◌≢◌, ℕ, ◌==◌, ◌&&◌, not, Bool, true, false, List, Option, Some, None, refl, sym, ap, subst, ◌∙◌, arith}
+use Rattle.std.proofs.Common.{◌≡◌, ◌≢◌, ℕ, ◌==◌, ◌&&◌, not, Bool, true, false, List, Option, Some, None, refl, ap, ◌∙◌, arith}
 use Rattle.std.proofs.lemmas.Bool.Decides.{nat_tests}
 use Rattle.mdc_types.specs.Roles.{is_working, is_written}
 use Rattle.mdc_types.specs.declared.events.Event.{Event}
 use Rattle.mdc_types.specs.declared.events.Event.TheVariants as events
 use Rattle.mdc_types.specs.declared.numbers.Sector.{Sector}
 use Rattle.mdc_types.specs.declared.outcomes.Outcome.{Outcome}
-use Rattle.mdc_types.specs.declared.roles.NodeState.{NodeState}
-use Rattle.mdc_types.specs.declared.roles.NodeState.TheVariants as states
 use Rattle.mdc_types.specs.declared.roles.Role.{Role}
-use Rattle.leg_failure.specs.Views.{works, is_target}
-use Rattle.mirror_io.specs.Flight.{write_in, is_done}
+use Rattle.mirror_io.specs.Flight.{write_in}
 use Rattle.mirror_io.specs.declared.live.LiveWrite.{LiveWrite}
 use Rattle.plain_history.specs.History.{PlainWrite, HasBegun, IsFree, LegalEntry}
 use Rattle.cluster_model.specs.State.{Core}
-use Rattle.cluster_model.specs.Phases.{is_in, is_up}
 use Rattle.cluster_model.specs.Table.{refusal}
-use Rattle.storage_ways.proofs.Parts.{Part, write_of, read_leg, done_there, has_started}
+use Rattle.storage_ways.proofs.Parts.{read_leg, done_there, has_started}
 use Rattle.storage_ways.proofs.Place.{Around, here, Place, sound_of}
 use Rattle.storage_ways.proofs.Flying.{plain_of, flying}
 use Rattle.storage_ways.proofs.RequestRows.{asking, ended}
