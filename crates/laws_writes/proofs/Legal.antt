@@ -16,7 +16,7 @@ use Rattle.storage_ways.proofs.Parts.{read_leg, done_there, has_started}
 use Rattle.storage_ways.proofs.Place.{Around, here, Place, sound_of}
 use Rattle.storage_ways.proofs.Flying.{plain_of, flying}
 use Rattle.storage_ways.proofs.RequestRows.{asking, ended}
-use Rattle.laws_writes.specs.Laws.{of_writes}
+use Rattle.laws_writes.specs.Laws.{IsOfWrites}
 use Rattle.laws_writes.proofs.Ghosts.{Ghost}
 use Rattle.laws_writes.proofs.Contents.{Contents}
 use Rattle.laws_writes.proofs.Heirs.{up_inside}
@@ -57,7 +57,7 @@ module _ (core : Core) (a : Around) (p : Place core a) (g : Ghost) (c : Contents
       let found = e.finishing.ending.write in
       begun_so (write_in k (core.writes n)) e.write found (c.done_started n k l (ap (λ x. done_there x l) found ∙ done))
 
-  pub write_legal : (e : Event) (o : Outcome) (reads : ℕ → ℕ → Option ℕ) (values : ℕ → List Sector) → of_writes e → refusal core e ≡ None → LegalEntry (flying core.writes) reads values e o
+  pub write_legal : (e : Event) (o : Outcome) (reads : ℕ → ℕ → Option ℕ) (values : ℕ → List Sector) → IsOfWrites e → refusal core e ≡ None → LegalEntry (flying core.writes) reads values e o
   write_legal (events.AskWrite n s v) o reads values of ok = ask_free n s v ok
   write_legal (events.EndWrite n k) o reads values of ok = end_begun n k ok
   write_legal e o reads values of ok = elim of [ ]

@@ -47,3 +47,4 @@ pub mod CopySteps
 pub mod FlightSteps
 pub mod BrokeSteps
 pub mod ContentSteps
+pub mod Headers

@@ -19,7 +19,7 @@ use Rattle.resync_worker.specs.declared.buffer.Buffer.{Buffer}
 use Rattle.plain_history.specs.History.{candidates, values_at, LegalAfter}
 use Rattle.cluster_model.specs.State.{State, Offer, sizes}
 use Rattle.cluster_model.specs.Changes.{resync_res}
-use Rattle.cluster_model.specs.Contents.{SoundOpening}
+use Rattle.cluster_model.specs.Contents.{SoundOpening, Opens, IsHeader, AllTell}
 use Rattle.cluster_model.specs.Copying.{buffer_of}
 use Rattle.cluster_model.specs.Opening.{Origin}
 use Rattle.cluster_model.specs.Run.{Run}
@@ -32,6 +32,11 @@ use Rattle.storage_ways.specs.Broken.{broken_in}
 abbrev pub Always : (Origin → State → List Entry → State → Type 0) → Type 0
 Always Holds = (o : Origin) (start end : State) (past : List Entry)
     → SoundOpening o start → Tells o start → Run start past end → Holds o start past end
+
+-- the opening of a header is sound, where its legs tell their contents
+abbrev pub HeadersAreSound : Type 0
+HeadersAreSound = (o : Origin) (start : State)
+    → Opens o start → IsHeader o start.legs → AllTell o start.legs → SoundOpening o start
 
 -- one slot of a node that is live, or waits for its recovery, marks the chunk of each sector with
 -- two candidates on each leg that may be read
@@ -101,15 +106,15 @@ RunsCopyAlone = Always (λ o start past end. CopiesHold end)
 
 -- Of a legal history: each write is asked where no other is live, and ends after its start while
 -- it is live.
-abbrev pub of_writes : Event → Type 0
-of_writes (AskWrite n s v) = Unit {0}
-of_writes (EndWrite n k) = Unit {0}
-of_writes e = ⊥
+abbrev pub IsOfWrites : Event → Type 0
+IsOfWrites (AskWrite n s v) = Unit {0}
+IsOfWrites (EndWrite n k) = Unit {0}
+IsOfWrites e = ⊥
 
 abbrev pub WritesAreLegal : (ℕ → List Sector) → List Entry → Type 0
 WritesAreLegal base [] = Unit {0}
 WritesAreLegal base (x ∷ past) =
-    (of_writes x.event → LegalAfter base past x) × WritesAreLegal base past
+    (IsOfWrites x.event → LegalAfter base past x) × WritesAreLegal base past
 
 abbrev pub RunsWriteLegally : Type 0
 RunsWriteLegally = Always (λ o start past end. WritesAreLegal (values_at o.base) past)
