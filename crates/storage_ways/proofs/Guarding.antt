@@ -196,3 +196,9 @@ module _ (core : Core) (a : Around) (p : Place core a) where
 
   pub up_node : (n : ℕ) → is_up (core.state n) ≡ true → n < nodes_of (sizes core)
   up_node n up = p.known.rounded.numbered.below n (grind arith)
+
+  pub works_leg : (n l : ℕ) → works (core.view n) l ≡ true → l < (sizes core).legs
+  works_leg n l e = elim (cases_lt l (sizes core).legs) [
+    | inl lt ↦ lt
+    | inr past ↦ absurd (working_not_spare ((core.view n).role l) ((p.known.range.legs.views n).roles l past) (first_true (is_working ((core.view n).role l)) (not ((core.view n).lost l)) e))
+  ]

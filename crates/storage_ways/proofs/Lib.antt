@@ -16,3 +16,12 @@ pub mod KeptWrites
 pub mod Flying
 pub mod GoingRows
 pub mod OfferRows
+pub mod RoundRows
+pub mod ReceivingRows
+pub mod FinishRows
+pub mod Between
+pub mod Voided
+pub mod Failing
+pub mod Moving
+pub mod QuietSteps
+pub mod ReadSteps

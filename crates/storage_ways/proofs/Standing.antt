@@ -201,3 +201,19 @@ data_put g legs l s v told = fun_ext (λ j. fun_ext (λ t. ap (λ b. if b then v
       where
         last : (a b c : Bool) → c ≡ true → (a && b && c) ≡ (a && b)
         last a b c e = grind arith
+
+-- what a page has that was read is what stands there
+pub page_stands : (g : Sizes) (legs : Legs) (l k p : ℕ) → k < nodes_of g → (c : ℕ) → page_has g p (legs.content l (page_sector g k p)).bytes c ≡ ((page_of c == p) && bits_on g legs k c l)
+page_stands g legs l k p lt c = by (page_of c == p) refl
+  where
+    low : nat_lt k (nodes_of g) ≡ true
+    low = grind (arith, nat_tests)
+
+    third : (x y z : Bool) → y ≡ false → (x && y && z) ≡ false
+    third x y z e = grind arith
+
+    by : (b : Bool) → (page_of c == p) ≡ b → page_has g p (legs.content l (page_sector g k p)).bytes c ≡ (b && bits_on g legs k c l)
+    by true e =
+        let same : p ≡ page_of c = grind (arith, nat_tests) in
+        ap (λ q. page_has g q (legs.content l (page_sector g k q)).bytes c) same ∙ sym (ap (λ t. t && bit_on g legs k c l) low)
+    by false e = third (nat_lt c (chunks_of g)) (page_of c == p) (chunk_bit (legs.content l (page_sector g k p)).bytes c) e
