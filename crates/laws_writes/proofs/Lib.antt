@@ -21,3 +21,7 @@ pub mod NeedSteps
 pub mod MarkSteps
 pub mod CoverSteps
 pub mod AgainSteps
+pub mod FirstMarks
+pub mod FirstKeepers
+pub mod First
+pub mod Values
