@@ -1,0 +1,2 @@
+pub mod Ghosts
+pub mod Pending
