@@ -25,3 +25,9 @@ pub mod Failing
 pub mod Moving
 pub mod QuietSteps
 pub mod ReadSteps
+pub mod WriteSteps
+pub mod SuperSteps
+pub mod Steps
+pub mod KeptSteps
+pub mod Runs
+pub mod Opening

@@ -83,7 +83,7 @@ module _ (old : State) (g : roles.Ghost) (vs : ℕ → List Sector) (p : Place o
   in_read n k l None = none
   in_read n k l (Some s) = none
 
-  in_step : (n k : ℕ) (o : Outcome) (new : Legs) → is_up (old.core.state n) ≡ true → Moves old (events.In n k) o new → Goal (events.In n k) o new
+  pub in_step : (n k : ℕ) (o : Outcome) (new : Legs) → is_up (old.core.state n) ≡ true → Moves old (events.In n k) o new → Goal (events.In n k) o new
   in_step n k o new up (Quiet nothing is legs) = moved old g vs (events.In n k) (here old.core A) o outcomes.Done new old.legs is legs none
   in_step n k o new up (Written t v at value path done legs) = absurd (some_not_none t v (in_is old.core n (read_in k (old.core.reads n)) t at).1 value)
   in_step n k o new up (Read t v at value path gives is legs) = moved old g vs (events.In n k) (here old.core A) o (outcomes.Value t.leg v) new old.legs is legs (in_read n k t.leg (read_sector (read_in k (old.core.reads n))))
@@ -110,7 +110,7 @@ module _ (old : State) (g : roles.Ghost) (vs : ℕ → List Sector) (p : Place o
       moved old g vs (events.Gather n) (here old.core A) o _ new old.legs is legs
       (failed_ways (here old.core A) old.core (events.Gather n) _ A at none (sound_of old.core A p) (up_in n d.up) still)
 
-  gather_step : (n : ℕ) (o : Outcome) (new : Legs) → refusal old.core (events.Gather n) ≡ None → Moves old (events.Gather n) o new → Goal (events.Gather n) o new
+  pub gather_step : (n : ℕ) (o : Outcome) (new : Legs) → refusal old.core (events.Gather n) ≡ None → Moves old (events.Gather n) o new → Goal (events.Gather n) o new
   gather_step n o new ok m =
       let d = page_due old.core A p n ok in
       let at = ap (gather_transfer old.core n) d.due ∙ ap (reads_at n (page_sector (sizes old.core) ((old.core.adding n).gathering.next / pages_of (sizes old.core)) ((old.core.adding n).gathering.next % pages_of (sizes old.core)))) d.reads in
@@ -127,7 +127,7 @@ module _ (old : State) (g : roles.Ghost) (vs : ℕ → List Sector) (p : Place o
       moved old g vs (events.CopyIn n) (here old.core A) o _ new old.legs is legs
       (failed_ways (here old.core A) old.core (events.CopyIn n) _ A at none (sound_of old.core A p) (up_in n d.up) still)
 
-  copy_in_step : (n : ℕ) (o : Outcome) (new : Legs) → refusal old.core (events.CopyIn n) ≡ None → Moves old (events.CopyIn n) o new → Goal (events.CopyIn n) o new
+  pub copy_in_step : (n : ℕ) (o : Outcome) (new : Legs) → refusal old.core (events.CopyIn n) ≡ None → Moves old (events.CopyIn n) o new → Goal (events.CopyIn n) o new
   copy_in_step n o new ok m =
       let d = sector_due old.core A p n ok in
       let at = ap (copy_in_transfer old.core n) d.next ∙ ap (reads_at n (place_of old.core d.sector)) d.reads in
@@ -144,7 +144,7 @@ module _ (old : State) (g : roles.Ghost) (vs : ℕ → List Sector) (p : Place o
       moved old g vs (events.SlotIn n q l) (here old.core A) o _ new old.legs is legs
       (failed_ways (here old.core A) old.core (events.SlotIn n q l) _ A at none (sound_of old.core A p) (up_in n r.opened.up) still)
 
-  slot_in_step : (n q l : ℕ) (o : Outcome) (new : Legs) → refusal old.core (events.SlotIn n q l) ≡ None → Moves old (events.SlotIn n q l) o new → Goal (events.SlotIn n q l) o new
+  pub slot_in_step : (n q l : ℕ) (o : Outcome) (new : Legs) → refusal old.core (events.SlotIn n q l) ≡ None → Moves old (events.SlotIn n q l) o new → Goal (events.SlotIn n q l) o new
   slot_in_step n q l o new ok m =
       let r = page_read old.core A p n q l ok in
       let at = ap (slot_in_transfer old.core n q l) r.is in

@@ -94,7 +94,7 @@ module _ (core : Core) (a : Around) (p : Place core a) where
       past_down m true e past = down_out (core.state m) e
       past_down m false e past = let lt = p.known.rounded.numbered.below m e in absurd (omega (arith, lt, past))
 
-  asking : (n s : ℕ) (v : Sector) → first_of (w_guards core n s) ≡ None → Asking (here core a) n s (core.writes_made n) v (core.writes n ++ new_write (core.writes_made n) s v ∷ [])
+  pub asking : (n s : ℕ) (v : Sector) → first_of (w_guards core n s) ≡ None → Asking (here core a) n s (core.writes_made n) v (core.writes n ++ new_write (core.writes_made n) s v ∷ [])
   asking n s v ok =
       let g = (all_none (w_guards core n s) ok).1.1.1 in
       let none = no_number 0 (core.writes_made n) (core.writes_made n) (core.writes n) (p.known.range.flight.requests n).order.writes_rise (omega arith) in
