@@ -10,7 +10,7 @@ use Rattle.resync_worker.specs.Sectors.{first_chunk_in, is_behind}
 use Rattle.resync_worker.specs.declared.buffer.Buffer.{Buffer}
 use Rattle.cluster_model.specs.Copying.{next_for}
 use Rattle.storage_ways.proofs.Parts.{Part, chunk_in, write_of, writes_at, has_started, done_there, reached_in, has_pass, covers}
-use Rattle.laws_writes.proofs.Ghosts.{Ghost, undecided, is_among}
+use Rattle.laws_writes.proofs.Ghosts.{Ghost, undecided, is_among, has_value}
 
 -- the first chunk to be copied in the open window
 abbrev pub here_by : Sizes → Option Passing → Option Range → Option ℕ
@@ -36,6 +36,11 @@ BufferPlace w = (n : ℕ) (p : Passing) (b : Buffer) → (w.copy n).pass ≡ Som
 abbrev pub ReachedPlace : Part → Type 0
 ReachedPlace w = (n : ℕ) → 0 < reached_in (w.copy n).pass
     → here w n ≡ Some (chunk_in w (reached_in (w.copy n).pass))
+
+-- and in the room
+abbrev pub ReachedWithin : Part → Type 0
+ReachedWithin w = (n : ℕ) → 0 < reached_in (w.copy n).pass
+    → reached_in (w.copy n).pass < w.geometry.room
 
 -- sectors that were settled in this window are decided
 abbrev pub SettledDecided : Part → Ghost → Type 0
@@ -80,9 +85,14 @@ BrokeUndecided w g = (n s : ℕ) → g.broke n s ≡ true → undecided g s ≡ 
 abbrev pub UndecidedWithin : Part → Ghost → Type 0
 UndecidedWithin w g = (s : ℕ) → undecided g s ≡ true → s < w.geometry.room
 
+-- there is a value that a read may give
+abbrev pub SomeValue : Ghost → Type 0
+SomeValue g = (s : ℕ) → has_value (g.values s) ≡ true
+
 pub record Contents (w : Part) (g : Ghost) : Type 0 where
   pub buffer_place : BufferPlace w
   pub reached_place : ReachedPlace w
+  pub reached_within : ReachedWithin w
   pub settled_decided : SettledDecided w g
   pub buffer_done : BufferDone w
   pub done_holds : DoneHolds w
@@ -94,3 +104,4 @@ pub record Contents (w : Part) (g : Ghost) : Type 0 where
   pub broke_need : BrokeNeed w g
   pub broke_undecided : BrokeUndecided w g
   pub undecided_within : UndecidedWithin w g
+  pub some_value : SomeValue g

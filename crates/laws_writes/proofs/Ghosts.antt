@@ -17,6 +17,11 @@ abbrev pub is_among : Sector → List Sector → Bool
 is_among v [] = false
 is_among v (u ∷ us) = same_sector v u || is_among v us
 
+-- there is a value
+abbrev pub has_value : List Sector → Bool
+has_value [] = false
+has_value (v ∷ us) = true
+
 -- there are two values at least
 abbrev pub is_open : List Sector → Bool
 is_open [] = false

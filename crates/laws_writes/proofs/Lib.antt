@@ -25,3 +25,10 @@ pub mod FirstMarks
 pub mod FirstKeepers
 pub mod First
 pub mod Values
+pub mod Flights
+pub mod WriterSteps
+pub mod BitSteps
+pub mod Chunks
+pub mod Races
+pub mod Moves
+pub mod PlaceSteps
