@@ -32,3 +32,7 @@ pub mod Chunks
 pub mod Races
 pub mod Moves
 pub mod PlaceSteps
+pub mod InState
+pub mod Closed
+pub mod Kept
+pub mod Legal
