@@ -32,7 +32,7 @@ use Rattle.laws_recovery.proofs.Found.{missed_found}
 use Rattle.laws_recovery.proofs.Ghosts.{Hold, hold_after}
 use Rattle.laws_recovery.proofs.HolderSteps.{goes_clean, cleared_kept, bit_marked, bit_cleared}
 use Rattle.laws_recovery.proofs.Known.{Known}
-use Rattle.laws_recovery.proofs.Lacks.{lacks_tried, lacks_copied, decides_end, decides_settle, buffer_is, not_there, lacked_written}
+use Rattle.laws_recovery.proofs.Lacks.{lacks_tried, lacks_copied, decides_end, decides_settle, buffer_is, lacks_below, not_there, lacked_written}
 use Rattle.laws_recovery.proofs.Marked.{wish_agreed}
 use Rattle.laws_recovery.proofs.Points.{at_point, either_if, same_point, clash, or_left_true}
 use Rattle.laws_recovery.proofs.Stale.{AgainArm, AgainTargets, AgainFresh, lacks, arm}
@@ -107,7 +107,7 @@ module _ (w : Part) (g : Ghost) (h : Hold) (z : Since) (a : Known w g h z) where
   met_again n l s m r e again lack some found =
       let rec = e.all.opened.recovery in
       let since = a.stale.again_fresh n l s m again lack some (ap is_some rec) in
-      let need = a.settled.read_need m s found since in
+      let need = a.settled.read_need m s (lacks_below w g l s lack) found since in
       clash ((w.bitmap m).need (chunk_in w s)) need (e.met (chunk_in w s) (sym (ap (λ y. found_in y (chunk_in w s)) rec) ∙ found))
 
   arm_before : (m l s : ℕ) → lacks w g l s ≡ true → Told (w.adding m) l (chunk_in w s) (place_of w (h.hold l s) (chunk_in w s)) (arm w (h.hold l s) (chunk_in w s) ≡ true)

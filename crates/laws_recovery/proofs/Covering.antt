@@ -29,6 +29,7 @@ use Rattle.laws_writes.proofs.Settling.{todo_at}
 use Rattle.laws_recovery.proofs.Found.{reads_working, covered_found}
 use Rattle.laws_recovery.proofs.Ghosts.{Hold}
 use Rattle.laws_recovery.proofs.Known.{Known}
+use Rattle.laws_recovery.proofs.Lacks.{lacks_below}
 use Rattle.laws_recovery.proofs.Points.{clash, same_point, and_left}
 use Rattle.laws_recovery.proofs.Stale.{lacks, arm}
 
@@ -63,12 +64,6 @@ module _ (w : Part) (g : Ghost) (h : Hold) (z : Since) (a : Known w g h z) where
   pub recoverer : (m n l : ℕ) → covers w m l ≡ true → is_some (w.recovery n) ≡ true → m ≡ n
   recoverer m n l e some = a.sound.turns.one m n (covers_held m l e) (a.sound.turns.recovery n some)
 
-  lacks_below : (l s : ℕ) → lacks w g l s ≡ true → s < w.geometry.room
-  lacks_below l s e = below s w.geometry.room (and_left (nat_lt s w.geometry.room) (is_stale w g l s) e)
-    where
-      below : (i j : ℕ) → nat_lt i j ≡ true → i < j
-      below i j e = grind (arith, nat_tests)
-
   -- when a chunk's last sector is settled a covered leg lacks nothing else of the chunk
   pub still_todo : (n : ℕ) (p : Passing) (b : Buffer) → Settles w n p b → (l s : ℕ) → covers w n l ≡ true → lacks w g l s ≡ true → (s == b.sector) ≡ false
       → (q : Passing) → (settled_at w.geometry q b).todo (chunk_in w s) ≡ false → q.todo (chunk_in w s) ≡ false
@@ -77,7 +72,7 @@ module _ (w : Part) (g : Ghost) (h : Hold) (z : Since) (a : Known w g h z) where
       settled : chunk_in w s ≡ chunk_in w b.sector → ends_chunk w.geometry b.sector ≡ true → ⊥
       settled same last =
           let differ : s ≢ b.sector = grind (arith, nat_tests) in
-          let lower = past_last w.geometry s b.sector a.sound.within.geometry last same (lacks_below l s lack) differ in
+          let lower = past_last w.geometry s b.sector a.sound.within.geometry last same (lacks_below w g l s lack) differ in
           let next = a.contents.buffer_place n p b e.buffers.pass e.buffers.buffer in
           let done = before_next w n s b.sector a.sound.within.geometry (ap is_some e.buffers.pass) next same lower in
           stale (nat_lt s w.geometry.room) (is_stale w g l s) lack (a.contents.covered_settled n l s covered done)
@@ -94,7 +89,7 @@ module _ (w : Part) (g : Ghost) (h : Hold) (z : Since) (a : Known w g h z) where
 
   -- a pass of the whole room has each chunk of the room to copy
   pub whole_todo : (l s : ℕ) → lacks w g l s ≡ true → nat_lt (chunk_in w s) (chunks_of w.geometry) ≡ false → ⊥
-  whole_todo l s lack left = above (chunk_in w s) (chunks_of w.geometry) (chunk_lt w.geometry s a.sound.within.geometry (lacks_below l s lack)) left
+  whole_todo l s lack left = above (chunk_in w s) (chunks_of w.geometry) (chunk_lt w.geometry s a.sound.within.geometry (lacks_below w g l s lack)) left
     where
       above : (i j : ℕ) → i < j → nat_lt i j ≡ false → ⊥
       above i j lt e = grind (arith, nat_tests)
@@ -138,7 +133,7 @@ module _ (w : Part) (g : Ghost) (h : Hold) (z : Since) (a : Known w g h z) where
       let some = found_some (w.recovery n) (chunk_in w s) found in
       let same = recoverer m n l covered some in
       let fresh = a.stale.covered_fresh m l s covered lack (subst (λ j. is_some (w.recovery j) ≡ true) (sym same) some) in
-      a.settled.read_need n s found (subst (λ j. z.since j s ≡ false) same fresh)
+      a.settled.read_need n s (lacks_below w g l s lack) found (subst (λ j. z.since j s ≡ false) same fresh)
     where
       found_some : (x : Option Recovering) (c : ℕ) → found_in x c ≡ true → is_some x ≡ true
       found_some None c e = cc

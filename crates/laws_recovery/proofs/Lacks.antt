@@ -1,5 +1,5 @@
 -- What a leg lacks after a try, a copy or a decision.
-use Rattle.std.proofs.Common.{◌≡◌, ℕ, ◌==◌, ◌&&◌, Bool, true, false, not, if◌then◌else◌, List, [], ◌∷◌, ◌++◌, Option, Some, None, refl, sym, ap, subst, ◌∙◌, arith}
+use Rattle.std.proofs.Common.{◌≡◌, ℕ, ◌<◌, ◌==◌, ◌&&◌, Bool, true, false, not, if◌then◌else◌, List, [], ◌∷◌, ◌++◌, Option, Some, None, refl, sym, ap, subst, ◌∙◌, arith}
 use Rattle.std.specs.Prelude.{nat_lt}
 use Rattle.std.proofs.lemmas.Bool.Decides.{nat_tests}
 use Rattle.mdc_types.specs.Bits.{has_bit}
@@ -17,12 +17,20 @@ use Rattle.storage_ways.proofs.Roled.{acked_works, written_target, up_served_goo
 use Rattle.storage_ways.proofs.Sound.{Sound}
 use Rattle.storage_ways.proofs.Ways.{Acked, Trying, Finishing, Settles, Buffers}
 use Rattle.laws_writes.proofs.Ghosts.{Ghost, undecided, is_among, is_open, with_try, with_value}
-use Rattle.laws_writes.proofs.Contents.{Contents}
+use Rattle.laws_writes.proofs.Contents.{Contents, is_stale}
+use Rattle.laws_recovery.proofs.Points.{and_left}
 use Rattle.laws_recovery.proofs.Stale.{lacks, BufferValue}
 use Rattle.laws_recovery.proofs.Values.{same_self, same_is, only_value, stale_tried}
 
 both : (a b c : Bool) → (b ≡ true → c ≡ true) → (a && b) ≡ true → (a && c) ≡ true
 both a b c f e = grind (arith, f)
+
+below : (i j : ℕ) → nat_lt i j ≡ true → i < j
+below i j e = grind (arith, nat_tests)
+
+-- a leg lacks sectors of the room alone
+pub lacks_below : (w : Part) (g : Ghost) (l s : ℕ) → lacks w g l s ≡ true → s < w.geometry.room
+lacks_below w g l s e = below s w.geometry.room (and_left (nat_lt s w.geometry.room) (is_stale w g l s) e)
 
 pub lacks_tried : (w : Part) (g : Ghost) → Contents w g → (n k l : ℕ) (x : LiveWrite) (left : Bool) → Trying w n k l x → (j s : ℕ)
     → lacks (record w { stored = with_data_if left w.stored l x.sector x.value }) (with_try g n k x) j s ≡ true → lacks w g j s ≡ true

@@ -17,3 +17,4 @@ pub mod Covering
 pub mod CoveredSteps
 pub mod CoveredGoodSteps
 pub mod CoveredFreshSteps
+pub mod Step

@@ -7,6 +7,8 @@ use Rattle.mdc_types.specs.Roles.{is_rebuilding}
 use Rattle.mdc_types.specs.declared.numbers.Range.{Range}
 use Rattle.mdc_types.specs.declared.numbers.Sector.{Sector}
 use Rattle.leg_failure.specs.Views.{NodeView}
+use Rattle.mirror_io.specs.Flight.{write_in}
+use Rattle.mirror_io.specs.declared.live.LiveWrite.{LiveWrite}
 use Rattle.node_recovery.specs.Progress.{Recovering}
 use Rattle.resync_worker.specs.Copying.{Passing, restarted, settled_at, covering_only, filled, copied, done_on}
 use Rattle.resync_worker.specs.declared.buffer.Buffer.{Buffer}
@@ -14,17 +16,19 @@ use Rattle.cluster_model.specs.State.{Offer, Copy}
 use Rattle.cluster_model.specs.Changes.{covering}
 use Rattle.cluster_model.specs.Copying.{next_for}
 use Rattle.laws_sound.proofs.CopySteps.{next_below}
-use Rattle.storage_ways.proofs.Parts.{Part, chunk_in, todo, todo_in, covers, found_in, buffer_in}
+use Rattle.storage_ways.proofs.Parts.{Part, chunk_in, todo, todo_in, covers, found_in, buffer_in, writes_at}
 use Rattle.storage_ways.proofs.Roled.{good_written, served_good, up_served_good}
 use Rattle.storage_ways.proofs.Ways as ways
 use Rattle.storage_ways.proofs.Ways.{Way, Offering, Fills}
 use Rattle.laws_roles.proofs.Parts.{promotes}
 use Rattle.laws_writes.proofs.Ghosts.{Ghost, ghost_after, is_among}
+use Rattle.laws_writes.proofs.FreeSectors.{next_free}
 use Rattle.laws_writes.proofs.Settled.{Since}
 use Rattle.laws_recovery.proofs.Ghosts.{Hold}
 use Rattle.laws_recovery.proofs.Known.{Known}
 use Rattle.laws_recovery.proofs.Lacks.{lacks_tried, lacks_copied, decides_end, decides_settle, lacked_written, buffer_is, Decides}
 use Rattle.laws_recovery.proofs.Stale.{NotStale, BufferValue, lacks, arm}
+use Rattle.laws_recovery.proofs.Marked.{apart_sym}
 use Rattle.laws_recovery.proofs.Points.{at_point, either_if, fails, clash}
 use Rattle.laws_recovery.proofs.Values.{among_more}
 
@@ -128,6 +132,20 @@ tried_value : (us : List Sector) (b : Bool) (v u : Sector) → is_among v us ≡
 tried_value us true v u e = among_more v u us e
 tried_value us false v u e = e
 
+kept_value : (c : Bool) (us ys : List Sector) (v : Sector) → c ≡ false → is_among v ys ≡ true → is_among v (if c then us else ys) ≡ true
+kept_value c us ys v other e = grind arith
+
+-- no live write is of the buffer's sector
+other_sector : (w : Part) (g : Ghost) (h : Hold) (z : Since) → Known w g h z → (m n k : ℕ) (b : Buffer) (x : LiveWrite) → write_in k (w.writes n) ≡ Some x → buffer_in (w.copy m).pass ≡ Some b → (b.sector == x.sector) ≡ false
+other_sector w g h z a m n k b x here is = by (w.copy m).pass refl
+  where
+    by : (y : Option Passing) → (w.copy m).pass ≡ y → (b.sector == x.sector) ≡ false
+    by None e = let none = sym (ap buffer_in e) ∙ is in cc
+    by (Some p) e =
+        let next = a.contents.buffer_place m p b e (sym (ap buffer_in e) ∙ is) in
+        let free = next_free w a.sound a.windows m n k b.sector next in
+        apart_sym x.sector b.sector (sym (ap (λ y. writes_at y b.sector) here) ∙ free)
+
 -- the buffer of a pass that goes on, and there are no others
 pub buffer_value : (w v : Part) (x : Way w v) (g : Ghost) (h : Hold) (z : Since) → Known w g h z → BufferValue v (ghost_after x g)
 buffer_value w v (ways.shuts n r o told e same) g h z a m b = at_point (Fits g b) w.copy n _ m (λ is. no_restarted (w.copy n).pass) (λ e. a.stale.buffer_value m b)
@@ -153,5 +171,5 @@ buffer_value w v (ways.misses n k l x left t) g h z a m b = λ is. tried_value (
 buffer_value w v (ways.settles n p c e) g h z a m b = at_point (Fits (ghost_after (ways.settles n p c e) g) b) w.copy n _ m
     (λ is. no_settled w.geometry (w.copy n).pass c)
     (λ apart is. absurd (clash (m == n) (same_node m n (a.sound.turns.one m n (a.sound.turns.pass m (has_buffer (w.copy m).pass b is)) e.buffers.turn)) apart))
-buffer_value w v (ways.ends n k x e) g h z a m b = ?
+buffer_value w v (ways.ends n k x e) g h z a m b = λ is. kept_value (b.sector == x.sector) _ _ b.value (other_sector w g h z a m n k b x e.ending.write is) (a.stale.buffer_value m b is)
 buffer_value w v x g h z a m b = a.stale.buffer_value m b

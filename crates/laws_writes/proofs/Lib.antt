@@ -13,10 +13,13 @@ pub mod WindowSteps
 pub mod Recoverers
 pub mod PageSteps
 pub mod Places
+pub mod Races
+pub mod FreeSectors
 pub mod UndecidedSteps
 pub mod Heirs
 pub mod KeeperSteps
 pub mod Settling
+pub mod SettledSteps
 pub mod NeedSteps
 pub mod MarkSteps
 pub mod CoverSteps
@@ -29,7 +32,6 @@ pub mod Flights
 pub mod WriterSteps
 pub mod BitSteps
 pub mod Chunks
-pub mod Races
 pub mod Moves
 pub mod PlaceSteps
 pub mod InState

@@ -1,5 +1,5 @@
 -- What an open recovery has read is to be copied, or was settled since.
-use Rattle.std.specs.Prelude.{◌≡◌, ℕ, ◌==◌, Bool, true, false, if◌then◌else◌, is_some}
+use Rattle.std.specs.Prelude.{◌≡◌, ℕ, ◌<◌, ◌==◌, Bool, true, false, if◌then◌else◌, is_some}
 use Rattle.storage_ways.proofs.Parts.{Part, chunk_in, has_pass, found_in}
 use Rattle.storage_ways.proofs.Ways as ways
 use Rattle.storage_ways.proofs.Ways.{Way}
@@ -33,8 +33,8 @@ SinceSettled w z = (n s : ℕ) → is_some (w.recovery n) ≡ true → is_settle
     → z.since n s ≡ true
 
 abbrev pub ReadNeed : Part → Since → Type 0
-ReadNeed w z = (n s : ℕ) → found_in (w.recovery n) (chunk_in w s) ≡ true → z.since n s ≡ false
-    → (w.bitmap n).need (chunk_in w s) ≡ true
+ReadNeed w z = (n s : ℕ) → s < w.geometry.room → found_in (w.recovery n) (chunk_in w s) ≡ true
+    → z.since n s ≡ false → (w.bitmap n).need (chunk_in w s) ≡ true
 
 pub record Settled (w : Part) (z : Since) : Type 0 where
   pub since_pass : SincePass w z
