@@ -1,5 +1,5 @@
 -- The ghosts of pending slots: functions of the opening and the run.
-use Rattle.std.specs.Prelude.{ℕ, ◌+◌, ◌==◌, nat_le, nat_lt, Bool, true, false, not, ◌&&◌, ◌||◌, if◌then◌else◌, Option, Some, None, is_some}
+use Rattle.std.specs.Prelude.{ℕ, ◌+◌, ◌==◌, nat_le, Bool, true, false, not, ◌&&◌, ◌||◌, if◌then◌else◌, Option, Some, None, is_some}
 use Rattle.dlm_modes.specs.First.{first_such, each_such}
 use Rattle.dlm_modes.specs.Points.{with_at}
 use Rattle.mdc_types.specs.Roles.{is_working}
@@ -7,28 +7,34 @@ use Rattle.leg_failure.specs.Views.{works}
 use Rattle.node_recovery.specs.Progress.{Recovering}
 use Rattle.cluster_model.specs.Phases.{is_up}
 use Rattle.laws_roles.proofs.Parts.{number, said_role, promotes, wished}
-use Rattle.storage_ways.proofs.Parts.{Part, found_in}
+use Rattle.storage_ways.proofs.Parts.{Part}
 use Rattle.storage_ways.proofs.Ways as ways
 use Rattle.storage_ways.proofs.Ways.{Way}
 
--- some up node reads from the leg
-abbrev pub is_served : Part → ℕ → Bool
-is_served w l = is_some (first_such (λ n. is_up (w.state n) && works (w.view n) l) 0 16)
+-- the up node reads from the leg
+abbrev pub serves : Part → ℕ → ℕ → Bool
+serves w n l = is_up (w.state n) && works (w.view n) l
 
--- a superblock as new as the last whole round calls the leg working
+-- the superblock on leg k, as new as the last whole round, calls the leg working
+abbrev pub calls : Part → ℕ → ℕ → Bool
+calls w k l = nat_le w.completed (number (w.super k)) && is_working (said_role (w.super k) l)
+
+-- some up node reads from the leg, or a node that comes in would
+abbrev pub is_served : Part → ℕ → Bool
+is_served w l = is_some (first_such (λ n. serves w n l) 0 16)
+
 abbrev pub is_called : Part → ℕ → Bool
-is_called w l =
-    is_some (first_such (λ k. nat_le w.completed (number (w.super k)) && is_working (said_role (w.super k) l)) 0 8)
+is_called w l = is_some (first_such (λ k. calls w k l) 0 w.geometry.legs)
 
 abbrev pub is_trusted : Part → ℕ → Bool
 is_trusted w l = is_served w l || is_called w l
 
 -- the slot marks the chunk on each trusted leg, and on each good one
 abbrev pub marks_trusted : Part → ℕ → ℕ → Bool
-marks_trusted w d c = each_such (λ l. not (is_trusted w l) || w.bit d c l) 0 8
+marks_trusted w d c = each_such (λ l. not (is_trusted w l) || w.bit d c l) 0 w.geometry.legs
 
 abbrev pub marks_good : Part → ℕ → ℕ → Bool
-marks_good w d c = each_such (λ l. not (w.ghost.good l) || w.bit d c l) 0 8
+marks_good w d c = each_such (λ l. not (w.ghost.good l) || w.bit d c l) 0 w.geometry.legs
 
 -- some node's offer stands that the leg is to work
 abbrev pub is_promoted : Part → ℕ → Bool
@@ -47,7 +53,7 @@ pub record Pend : Type 0 where
   pub born : ℕ → ℕ
   pub owed : ℕ → ℕ → Bool
   pub full : ℕ → ℕ → Bool
-  pub promoted : ℕ → Option ℕ
+  pub promoted : ℕ → ℕ → Bool
   -- by slot and chunk: a recovery that found the chunk has cleared a page of the slot
   pub moved : ℕ → ℕ → Bool
   -- by node: the slot that it recovered when it died
@@ -60,12 +66,12 @@ abbrev pub with_pending : Part → Pend → ℕ → Option ℕ → Pend
 with_pending v g d slot = record {
   count = g.count + 1;
   born = with_at g.born d (g.count + 1);
-  owed = with_at g.owed d (marks_trusted v d);
-  full = with_at g.full d (marks_good v d);
-  promoted = with_at g.promoted d (first_such (is_promoted v) 0 8);
-  moved = with_at g.moved d (λ c. false);
+  owed = λ e c. if e == d then marks_trusted v d c else g.owed e c;
+  full = λ e c. if e == d then marks_good v d c else g.full e c;
+  promoted = λ e l. if e == d then is_promoted v l else g.promoted e l;
+  moved = λ e c. if e == d then false else g.moved e c;
   was = with_at g.was d slot;
-  young = with_at g.young d (λ s. false);
+  young = λ e s. if e == d then false else g.young e s;
 }
 
 abbrev pub with_start : Pend → ℕ → Bool → Pend

@@ -397,6 +397,7 @@ pub record Writing (w : Part) (n l : ℕ) (o : Offer) : Type 0 where
   pub others : (m : ℕ) → m ≢ n → w.offer m ≡ None
   pub silent : Silent w
   pub eight : (l : ℕ) → role_of (eight o.role) l ≡ o.role l
+  pub leg : l < w.geometry.legs
 
 -- The ways.
 
