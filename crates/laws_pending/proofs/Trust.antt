@@ -110,3 +110,54 @@ module _ (w : Part) (s : Sound w) where
 
   pub calls_good : (k l : ℕ) → calls w k l ≡ true → w.ghost.good l ≡ true
   calls_good k l e = s.roles.super_good k l (true_le w.completed (number (w.super k)) (left (nat_le w.completed (number (w.super k))) (is_working (said_role (w.super k) l)) e)) (right (nat_le w.completed (number (w.super k))) (is_working (said_role (w.super k) l)) e)
+
+-- Before a way.
+
+up_else : (w : Part) (f : ℕ → NodeState) (g : ℕ → NodeView) (n m l : ℕ) (x : NodeState) (y : NodeView) → is_up x ≡ false → (is_up (with_at w.state n x m) && works (with_at w.view n y m) l) ≡ true → serves w m l ≡ true
+up_else w f g n m l x y down e = grind (arith, nat_tests, down)
+
+lost_more : (w : Part) (n m l k : ℕ) → (is_up (w.state m) && works (with_at w.view n (lost_one (w.view n) k) m) l) ≡ true → serves w m l ≡ true
+lost_more w n m l k e = grind (arith, nat_tests)
+
+pub serves_before : (w v : Part) → Way w v → Sound w → (n l : ℕ) → l < w.geometry.legs → serves v n l ≡ true → Was w l
+serves_before w v (ways.finishes n o x meta) s m l lt e = at_two (m == n) refl e
+  where
+    at_two : (b : Bool) → (m == n) ≡ b → (is_up (if b then states.Up else w.state m) && works (if b then finished (w.view n) o.role o.size else w.view m) l) ≡ true → Was w l
+    at_two true t e = trusted (says l (published_called w s n o x.published x.offer meta l lt (left (is_working (o.role l)) _ e)))
+    at_two false t e = trusted (reads m e)
+serves_before w v (ways.hears_roles n rs size o x meta same) s m l lt e = at_two (m == n) refl e
+  where
+    at_two : (b : Bool) → (m == n) ≡ b → (is_up (w.state m) && works (if b then view_taken (w.view n) (role_of rs) size else w.view m) l) ≡ true → Was w l
+    at_two true t e = trusted (says l (published_called w s (w.receiver n).from o x.published x.offer meta l lt
+        (sym (ap is_working (same l)) ∙ left (is_working (role_of rs l)) _ (right (is_up (w.state m)) _ e))))
+    at_two false t e = trusted (reads m e)
+serves_before w v (ways.resumes n x) s m l lt e = trusted (reads m (grind (arith, nat_tests)))
+serves_before w v (ways.loses n k out up) s m l lt e = trusted (reads m (lost_more w n m l k e))
+serves_before w v (ways.joins n x) s m l lt e = trusted (reads m (grind (arith, nat_tests)))
+serves_before w v (ways.comes n k told lost ranges x) s m l lt e = trusted (reads m (up_else w w.state w.view n m l states.Loaded _ refl e))
+serves_before w v (ways.leaves n x) s m l lt e = trusted (reads m (up_else w w.state w.view n m l states.Out _ refl e))
+serves_before w v (ways.quits n x) s m l lt e = trusted (reads m (up_else w w.state w.view n m l states.Out _ refl e))
+serves_before w v (ways.parts n o x) s m l lt e = trusted (reads m (up_else w w.state w.view n m l states.Out _ refl e))
+serves_before w v (ways.dies n told x) s m l lt e = trusted (reads m (up_else w w.state w.view n m l states.Out _ refl e))
+serves_before w v x s m l lt e = trusted (reads m e)
+
+written_was : (w : Part) → Sound w → (n l : ℕ) (o : Offer) → Writing w n l o → (k x : ℕ)
+    → (nat_le w.completed (number (with_at w.super l (Some (says_of_offer o)) k)) && is_working (said_role (with_at w.super l (Some (says_of_offer o)) k) x)) ≡ true → Was w x
+written_was w s n l o e k x = at_point (λ y. (nat_le w.completed (number y) && is_working (said_role y x)) ≡ true → Was w x) w.super l (Some (says_of_offer o)) k
+    (λ is t. proposed_was w s n l o e x (right (nat_le w.completed o.events) _ t))
+    (λ apart t. trusted (says k t))
+
+later : (c d : ℕ) (x : Option Says) (l : ℕ) → c < d → (nat_le d (number x) && is_working (said_role x l)) ≡ true → (nat_le c (number x) && is_working (said_role x l)) ≡ true
+later c d x l lt e =
+    let le = true_le d (number x) (left (nat_le d (number x)) _ e) in
+    both (nat_le c (number x)) (is_working (said_role x l)) (le_true c (number x) (omega (arith, lt, le))) (right (nat_le d (number x)) _ e)
+
+pub calls_before : (w v : Part) → Way w v → Sound w → (k l : ℕ) → calls v k l ≡ true → Was w l
+calls_before w v (ways.writes_super n i o x) s k l e = written_was w s n i o x k l e
+calls_before w v (ways.leaves_super n i o x) s k l e = written_was w s n i o x k l e
+calls_before w v (ways.finishes n o x meta) s k l e =
+    let change : changes_super (w.offer n) ≡ true = ap changes_super x.offer ∙ meta in
+    let drawn : o.events ≡ w.drawn = sym (ap offered_events x.offer) ∙ s.numbers.offer_drawn n change in
+    let new = s.numbers.offer_new n change in
+    trusted (says k (later w.completed o.events (w.super k) l (omega (arith, drawn, new)) e))
+calls_before w v x s k l e = trusted (says k e)
