@@ -5,3 +5,5 @@ pub mod Points
 pub mod Found
 pub mod HeirSteps
 pub mod Trust
+pub mod Gone
+pub mod MarkSteps

@@ -36,7 +36,7 @@ pub data Was (w : Part) (l : ℕ) : Type 0 where
   trusted : Trusts w l → Was w l
   promoted : (n : ℕ) → wished promotes (w.offer n) l ≡ true → Was w l
 
-both : (a b : Bool) → a ≡ true → b ≡ true → (a && b) ≡ true
+pub both : (a b : Bool) → a ≡ true → b ≡ true → (a && b) ≡ true
 both a b t u = grind arith
 
 pub left : (a b : Bool) → (a && b) ≡ true → a ≡ true
