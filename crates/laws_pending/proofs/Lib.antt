@@ -7,3 +7,5 @@ pub mod HeirSteps
 pub mod Trust
 pub mod Gone
 pub mod MarkSteps
+pub mod WorkSteps
+pub mod MovedSteps

@@ -71,7 +71,7 @@ module _ (w : Part) (g : Ghost) (z : Since) (p : Pend) (a : Known w g z p) where
       (λ t. let same = same_point d r.slot t in owed_gone w g z p a n r x c l (subst (λ k. p.owed k c ≡ true) same owed) (subst (λ k. p.moved k c ≡ false) same old) (was_good w g z p a l trust) (subst (λ k. p.promoted k l ≡ false) same other))
       (owed_there w g z p a d c l pend owed old lt other (trusted trust))
 
-  offered_good : (n : ℕ) (o : Offer) → Whole w n o → is_metadata o.wish ≡ true → (l : ℕ) → is_working (o.role l) ≡ true → w.ghost.good l ≡ true
+  pub offered_good : (n : ℕ) (o : Offer) → Whole w n o → is_metadata o.wish ≡ true → (l : ℕ) → is_working (o.role l) ≡ true → w.ghost.good l ≡ true
   offered_good n o e meta l working = a.sound.roles.offer_good n l (ap changes_super e.offer ∙ meta) (ap (λ y. is_working (offered_role y l)) e.offer ∙ working)
 
   -- while a slot is pending no leg becomes good
