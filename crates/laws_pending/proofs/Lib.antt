@@ -9,3 +9,5 @@ pub mod Gone
 pub mod MarkSteps
 pub mod WorkSteps
 pub mod MovedSteps
+pub mod MovedMarks
+pub mod Step

@@ -96,21 +96,21 @@ module _ (w : Part) (g : Ghost) (z : Since) (p : Pend) (a : Known w g z p) where
       same_some : (h n : ℕ) → Some h ≡ Some n → h ≡ n
       same_some h n e = cc
 
-if_false : (b x y u : Bool) → b ≡ false → (if b then x else y) ≡ u → y ≡ u
+pub if_false : (b x y u : Bool) → b ≡ false → (if b then x else y) ≡ u → y ≡ u
 if_false b x y u f e = grind arith
 
-not_died : (pending : ℕ → Bool) (n h : ℕ) → with_at pending n true h ≡ false → (h == n) ≡ false
+pub not_died : (pending : ℕ → Bool) (n h : ℕ) → with_at pending n true h ≡ false → (h == n) ≡ false
 not_died pending n h e = grind arith
 
 absent : (b x : Bool) → b ≡ true → (if b then false else x) ≡ true → ⊥
 absent b x t e = grind arith
 
-moved_or : {P : Type 0} (here found old : Bool) → (if here && found then true else old) ≡ true → (here ≡ true → found ≡ true → P) → (old ≡ true → P) → P
+pub moved_or : {P : Type 0} (here found old : Bool) → (if here && found then true else old) ≡ true → (here ≡ true → found ≡ true → P) → (old ≡ true → P) → P
 moved_or true true old e new before = new refl refl
 moved_or true false old e new before = before e
 moved_or false found old e new before = before e
 
-settled_else : (b old : Bool) → (if b then true else old) ≡ false → old ≡ false
+pub settled_else : (b old : Bool) → (if b then true else old) ≡ false → old ≡ false
 settled_else b old e = grind arith
 
 module _ (w : Part) (g : Ghost) (z : Since) (p : Pend) (a : Known w g z p) where
@@ -119,34 +119,34 @@ module _ (w : Part) (g : Ghost) (z : Since) (p : Pend) (a : Known w g z p) where
   not_heir n d s none settled m heir =
       clash (recovers (w.recovery n) d) (a.pendings.moved_found d n s m.pending m.within m.moved m.unsettled heir settled) (ap (λ y. recovers y d) none)
 
-  heir_else : (n d h s : ℕ) → w.recovery n ≡ None → w.pending n ≡ false → Moved w z p d s → w.heir d ≡ Some h → (h == n) ≡ false
+  pub heir_else : (n d h s : ℕ) → w.recovery n ≡ None → w.pending n ≡ false → Moved w z p d s → w.heir d ≡ Some h → (h == n) ≡ false
   heir_else n d h s none settled m heir = by_test (h == n) (λ t. absurd (not_heir n d s none settled m (heir ∙ ap Some (same_point h n t)))) (λ f. f)
 
-  heir_ends : (n d h s : ℕ) (r : Recovering) → EndsRecovery w n r → Moved w z p d s → w.heir d ≡ Some h → (h == r.slot) ≡ false
+  pub heir_ends : (n d h s : ℕ) (r : Recovering) → EndsRecovery w n r → Moved w z p d s → w.heir d ≡ Some h → (h == r.slot) ≡ false
   heir_ends n d h s r x m heir = by_test (h == r.slot) (λ t. absurd (line_ends w g z p a n d s r x m (heir ∙ ap Some (same_point h r.slot t)))) (λ f. f)
 
   -- what was moved before a way
-  old_moved : (d s : ℕ) → w.pending d ≡ true → s < w.geometry.room → p.moved d (chunk_in w s) ≡ true → z.since d s ≡ false → Moved w z p d s
+  pub old_moved : (d s : ℕ) → w.pending d ≡ true → s < w.geometry.room → p.moved d (chunk_in w s) ≡ true → z.since d s ≡ false → Moved w z p d s
   old_moved d s e lt f h = record { pending = e; within = lt; moved = f; unsettled = h }
 
-  abbrev Begun : ℕ → ℕ → ℕ → Type 0
+  abbrev pub Begun : ℕ → ℕ → ℕ → Type 0
   Begun n d s = Moved w z p d s × ((d == n) ≡ false)
 
-  gone_moved : (n d s : ℕ) → with_at w.pending n false d ≡ true → s < w.geometry.room → p.moved d (chunk_in w s) ≡ true → z.since d s ≡ false → Moved w z p d s
+  pub gone_moved : (n d s : ℕ) → with_at w.pending n false d ≡ true → s < w.geometry.room → p.moved d (chunk_in w s) ≡ true → z.since d s ≡ false → Moved w z p d s
   gone_moved n d s e lt f h = old_moved d s (grind (arith, nat_tests)) lt f h
 
-  died_moved : (n d s : ℕ) → with_at w.pending n true d ≡ true → s < w.geometry.room → (if d == n then false else p.moved d (chunk_in w s)) ≡ true → (if d == n then false else z.since d s) ≡ false → Begun n d s
+  pub died_moved : (n d s : ℕ) → with_at w.pending n true d ≡ true → s < w.geometry.room → (if d == n then false else p.moved d (chunk_in w s)) ≡ true → (if d == n then false else z.since d s) ≡ false → Begun n d s
   died_moved n d s e lt f h = (old_moved d s (grind (arith, nat_tests)) lt (grind (arith, nat_tests)) (grind (arith, nat_tests)), grind (arith, nat_tests))
 
-  begun_moved : (n d s : ℕ) → is_up (w.state n) ≡ true → w.pending d ≡ true → s < w.geometry.room → p.moved d (chunk_in w s) ≡ true → (if d == n then false else z.since d s) ≡ false → Moved w z p d s
+  pub begun_moved : (n d s : ℕ) → is_up (w.state n) ≡ true → w.pending d ≡ true → s < w.geometry.room → p.moved d (chunk_in w s) ≡ true → (if d == n then false else z.since d s) ≡ false → Moved w z p d s
   begun_moved n d s up e lt f h = let settled = up_settled w g z p a n up in old_moved d s e lt f (grind (arith, nat_tests))
 
 -- Recoveries after a way.
 
-recovers_else : (recovery : ℕ → Option Recovering) (n m d : ℕ) (y : Option Recovering) → (m == n) ≡ false → recovers (recovery m) d ≡ true → recovers (with_at recovery n y m) d ≡ true
+pub recovers_else : (recovery : ℕ → Option Recovering) (n m d : ℕ) (y : Option Recovering) → (m == n) ≡ false → recovers (recovery m) d ≡ true → recovers (with_at recovery n y m) d ≡ true
 recovers_else recovery n m d y apart old = grind (arith, apart)
 
-recovers_kept : (recovery : ℕ → Option Recovering) (n m d : ℕ) (r y : Recovering) → recovery n ≡ Some r → y.slot ≡ r.slot → recovers (recovery m) d ≡ true → recovers (with_at recovery n (Some y) m) d ≡ true
+pub recovers_kept : (recovery : ℕ → Option Recovering) (n m d : ℕ) (r y : Recovering) → recovery n ≡ Some r → y.slot ≡ r.slot → recovers (recovery m) d ≡ true → recovers (with_at recovery n (Some y) m) d ≡ true
 recovers_kept recovery n m d r y rec same = at_point (λ x. recovers (recovery m) d ≡ true → recovers x d ≡ true) recovery n (Some y) m
     (λ is old. ap (λ k. k == d) same ∙ sym (ap (λ x. recovers x d) rec) ∙ sym (ap (λ j. recovers (recovery j) d) is) ∙ old) (λ apart old. old)
 
