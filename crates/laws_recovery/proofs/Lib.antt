@@ -18,3 +18,11 @@ pub mod CoveredSteps
 pub mod CoveredGoodSteps
 pub mod CoveredFreshSteps
 pub mod Step
+pub mod InState
+pub mod FirstStale
+pub mod KeptReads
+pub mod Asked
+pub mod Recovered
+pub mod Runs
+pub mod Legal
+pub mod Promises

@@ -1,6 +1,6 @@
 -- Each way keeps that the keeper's bit stands on a leg that is added again, where its page was read
 -- and the chunk not gathered.
-use Rattle.std.proofs.Common.{◌≡◌, ◌⊎◌, inl, inr, ℕ, ◌==◌, ◌<◌, ◌≤◌, ◌+◌, ◌*◌, ◌/◌, ◌%◌, ◌&&◌, ◌||◌, if◌then◌else◌, Bool, true, false, refl, sym, ap, subst, ◌∙◌, arith}
+use Rattle.std.proofs.Common.{◌≡◌, ◌⊎◌, inl, inr, ℕ, ◌==◌, ◌<◌, ◌+◌, ◌/◌, ◌%◌, ◌&&◌, ◌||◌, if◌then◌else◌, Bool, true, false, refl, sym, ap, subst, ◌∙◌, arith}
 use Rattle.std.proofs.lemmas.Bool.Decides.{nat_tests}
 use Rattle.std.proofs.lemmas.Nat.{div-mul-add, mod-mul-add}
 use Rattle.dlm_modes.specs.Points.{with_at}
@@ -52,9 +52,10 @@ past_after w n l c place a wish h = absurd (none_past (after a.addition wish) a.
 -- Of the page that is read now, the keeper's chunk is gathered.
 
 due : (g : Ghost) (w : Part) (k c next : ℕ) → place_of w k c ≡ next → page_of c < pages_of w.geometry → (k ≡ next / pages_of w.geometry) × (page_of c ≡ next % pages_of w.geometry)
-due g w k c next is lt =
-    (sym (div-mul-add k (pages_of w.geometry) (page_of c) lt) ∙ ap (λ x. x / pages_of w.geometry) is,
-    sym (mod-mul-add k (pages_of w.geometry) (page_of c) lt) ∙ ap (λ x. x % pages_of w.geometry) is)
+due g w k c next is lt = (
+  sym (div-mul-add k (pages_of w.geometry) (page_of c) lt) ∙ ap (λ x. x / pages_of w.geometry) is,
+  sym (mod-mul-add k (pages_of w.geometry) (page_of c) lt) ∙ ap (λ x. x % pages_of w.geometry) is,
+)
 
 or_none : (a b : Bool) → (a || b) ≡ false → (a ≡ false) × (b ≡ false)
 or_none a b e = grind arith
@@ -78,11 +79,14 @@ past_gathered : (w : Part) (g : Ghost) (n k p j t l : ℕ) (has : ℕ → Bool) 
     → Past (record (w.adding n) { gathering = record { next = (w.adding n).gathering.next + 1; gathered = λ c. (w.adding n).gathering.gathered c || has c } }) l (chunk_in w t) (place_of w (g.keeper t) (chunk_in w t))
     → Past (w.adding n) l (chunk_in w t) (place_of w (g.keeper t) (chunk_in w t))
 past_gathered w g n k p j t l has s i x two h =
-    let both = or_none ((w.adding n).gathering.gathered (chunk_in w t)) (has (chunk_in w t)) h.1 in
-    (h.0, both.0, elim (le_or (place_of w (g.keeper t) (chunk_in w t)) (w.adding n).gathering.next h.2) [
-      | inl lt ↦ lt
-      | inr is ↦ absurd (now_gathered w g n k p j t has s i x two both.1 is)
-    ])
+    let both = or_none ((w.adding n).gathering.gathered (chunk_in w t)) (has (chunk_in w t)) h.1 in (
+      h.0,
+      both.0,
+      elim (le_or (place_of w (g.keeper t) (chunk_in w t)) (w.adding n).gathering.next h.2) [
+        | inl lt ↦ lt
+        | inr is ↦ absurd (now_gathered w g n k p j t has s i x two both.1 is)
+      ],
+    )
   where
     le_or : (a b : ℕ) → a < b + 1 → (a < b) ⊎ (a ≡ b)
     le_or a b lt = grind (arith, nat_tests)

@@ -1,6 +1,5 @@
 -- Each way keeps what is known of bitmaps.
-use Rattle.std.proofs.Common.{◌≡◌, ◌≢◌, ℕ, ◌<◌, ◌==◌, ◌||◌, ◌&&◌, if◌then◌else◌, Bool, true, false, Option, Some, None, List, refl, sym, ap, ◌∙◌, arith}
-use Rattle.std.specs.Prelude.{is_some}
+use Rattle.std.proofs.Common.{◌≡◌, ℕ, ◌==◌, ◌&&◌, if◌then◌else◌, Bool, true, false, Option, Some, None, List, refl, sym, ap, ◌∙◌, arith}
 use Rattle.std.proofs.lemmas.Bool.Decides.{nat_tests}
 use Rattle.mdc_types.specs.declared.numbers.Sector.{Sector}
 use Rattle.dlm_modes.specs.Points.{with_at}
@@ -20,7 +19,7 @@ use Rattle.storage_ways.proofs.Ways.{Way, Asking, Open}
 use Rattle.storage_ways.proofs.Ways as ways
 use Rattle.laws_writes.proofs.WriterSteps.{one_writer, one_write}
 use Rattle.laws_writes.proofs.Flights.{write_there, same_nat}
-use Rattle.laws_writes.proofs.Bits.{Bits, MarkBit, NeedSet, WriteSet, OneWriter, OneWrite}
+use Rattle.laws_writes.proofs.Bits.{Bits, MarkBit, NeedSet, WriteSet}
 
 -- no live write is of a sector in which none is
 none_of : (w : Part) (c m k u : ℕ) → ((j : ℕ) (x : LiveWrite) → write_in j (w.writes m) ≡ Some x → (chunk_in w x.sector == c) ≡ false) → writes_at (write_of w m k) u ≡ true → (chunk_in w u == c) ≡ false

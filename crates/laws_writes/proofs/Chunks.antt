@@ -1,6 +1,6 @@
 -- Chunks of a window: the one that is copied there, and what was settled of it.
-use Rattle.std.proofs.Common.{◌≡◌, ◌≢◌, ◌⊎◌, inl, inr, ℕ, zero, suc, ◌+◌, ◌-◌, ◌*◌, ◌/◌, ◌%◌, ◌<◌, ◌≤◌, ◌==◌, ◌&&◌, ◌||◌, if◌then◌else◌, Bool, true, false, Option, Some, None, refl, sym, ap, subst, ◌∙◌, arith}
-use Rattle.std.specs.Prelude.{nat_lt, nat_le, option_map}
+use Rattle.std.proofs.Common.{◌≡◌, ◌≢◌, ◌⊎◌, inl, inr, ℕ, ◌+◌, ◌-◌, ◌*◌, ◌/◌, ◌<◌, ◌≤◌, ◌==◌, ◌&&◌, if◌then◌else◌, Bool, true, false, Option, Some, None, refl, sym, ap, subst, ◌∙◌, arith}
+use Rattle.std.specs.Prelude.{option_map}
 use Rattle.std.proofs.Math.Nat.{div-mul-le_self, lt-div-mul-add}
 use Rattle.std.proofs.lemmas.Bool.Decides.{nat_tests}
 use Rattle.std.proofs.lemmas.Nat.{div-mul-add}
@@ -8,8 +8,8 @@ use Rattle.mdc_types.specs.Geometry.{Sizes, IsGeometry, chunk_of, chunk_start, c
 use Rattle.mdc_types.specs.Ranges.{holds}
 use Rattle.mdc_types.specs.declared.numbers.Range.{Range}
 use Rattle.resync_worker.specs.Copying.{Passing}
-use Rattle.resync_worker.specs.Sectors.{first_chunk_in, place_in, is_behind, is_edge, ends_chunk, reached_after, todo_after}
-use Rattle.resync_worker.proofs.SectorLaws.{IsIn, IsNext, place_in-next, place_in-is, chunk_end-le, chunk_of-more, is_behind-settled}
+use Rattle.resync_worker.specs.Sectors.{first_chunk_in, place_in, is_behind, is_edge, ends_chunk, reached_after}
+use Rattle.resync_worker.proofs.SectorLaws.{IsIn, place_in-is, chunk_end-le, chunk_of-more}
 use Rattle.dlm_modes.proofs.FirstLaws.{IsFirst, first_such_some}
 use Rattle.cluster_model.specs.Copying.{next_for}
 use Rattle.cluster_model.specs.Wishes.{is_window}

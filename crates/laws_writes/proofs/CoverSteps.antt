@@ -1,21 +1,17 @@
 -- Each way keeps that the keeper's bit stands on covered legs, where the chunk isn't to be copied.
-use Rattle.std.proofs.Common.{◌≡◌, ◌≢◌, ℕ, suc, ◌==◌, ◌<◌, ◌≤◌, ◌+◌, ◌*◌, ◌&&◌, ◌||◌, not, if◌then◌else◌, Bool, true, false, Option, Some, None, [], ◌∷◌, refl, sym, ap, subst, ◌∙◌, arith}
+use Rattle.std.proofs.Common.{◌≡◌, ℕ, suc, ◌==◌, ◌<◌, ◌≤◌, ◌+◌, ◌*◌, if◌then◌else◌, Bool, true, false, Option, Some, None, [], ◌∷◌, refl, sym, subst, ◌∙◌, arith}
 use Rattle.std.specs.Prelude.{option_map, nat_lt}
 use Rattle.std.proofs.Math.Nat.{mul-le-mul_right, suc-mul}
 use Rattle.std.proofs.lemmas.Bool.Decides.{nat_tests}
 use Rattle.dlm_modes.specs.Points.{with_at}
 use Rattle.mdc_types.specs.Geometry.{Sizes, chunks_of, nodes_of, page_of, pages_of}
-use Rattle.mdc_types.specs.Roles.{is_rebuilding}
 use Rattle.slot_gathering.specs.Gatherings.{all_pages}
 use Rattle.mdc_types.specs.declared.numbers.Sector.{Sector}
-use Rattle.leg_failure.specs.Views.{NodeView}
 use Rattle.resync_worker.specs.Copying.{Passing, begun, restarted, filled, copied, settled_at, covering_only}
 use Rattle.resync_worker.specs.declared.buffer.Buffer.{Buffer}
 use Rattle.cluster_model.specs.State.{Copy}
-use Rattle.cluster_model.specs.Changes.{covering}
-use Rattle.laws_roles.proofs.AddingWords.{covers_less}
 use Rattle.laws_roles.proofs.Parts as roles
-use Rattle.storage_ways.proofs.Parts.{Part, chunk_in, covers, todo, todo_in}
+use Rattle.storage_ways.proofs.Parts.{Part, chunk_in, covers, todo_in}
 use Rattle.storage_ways.proofs.Sound.{Sound}
 use Rattle.storage_ways.proofs.Ways.{Way, PassesAgain, Settles, pass_with}
 use Rattle.storage_ways.proofs.Ways as ways
@@ -24,7 +20,7 @@ use Rattle.laws_writes.proofs.Ghosts.{Ghost, undecided, is_open, with_value, gho
 use Rattle.laws_writes.proofs.Bits.{Bits}
 use Rattle.laws_writes.proofs.Contents.{Contents}
 use Rattle.laws_writes.proofs.Pages.{Pages}
-use Rattle.laws_writes.proofs.Intent.{Intents, CoveredIntent, is_gathered, IsPast, place_of}
+use Rattle.laws_writes.proofs.Intent.{Intents, CoveredIntent, is_gathered}
 use Rattle.laws_writes.proofs.Heirs.{heir_bit, up_inside}
 use Rattle.laws_writes.proofs.KeeperSteps.{live_up}
 use Rattle.laws_writes.proofs.MarkSteps.{tried_bit, written_bit}

@@ -1,23 +1,19 @@
 -- What holds of bits, windows, contents, recoveries and intent at an opening.
-use Rattle.std.proofs.Common.{◌≡◌, ℕ, ◌<◌, ◌==◌, ◌&&◌, ◌||◌, if◌then◌else◌, Bool, true, false, [], Option, Some, None, refl, sym, ap, subst, ◌∙◌, arith}
+use Rattle.std.proofs.Common.{◌≡◌, ℕ, ◌<◌, ◌==◌, ◌&&◌, ◌||◌, if◌then◌else◌, Bool, true, false, [], ◌∷◌, Option, Some, None, refl, sym, ap, subst, ◌∙◌, arith}
 use Rattle.std.specs.Prelude.{nat_lt}
 use Rattle.std.proofs.lemmas.Bool.Decides.{nat_tests}
 use Rattle.mdc_types.specs.Bits.{has_bit}
-use Rattle.dlm_modes.specs.declared.block.Block.{Block}
-use Rattle.dlm_modes.specs.declared.mode.Mode.TheVariants.{CR}
-use Rattle.dlm_space.specs.Locks.{zero_block}
-use Rattle.msg_rounds.specs.Locks.{ack_res}
-use Rattle.cluster_model.specs.Changes.{no_new_dev}
-use Rattle.cluster_msgs.specs.Ranges.{spelled_range}
-use Rattle.cluster_msgs.specs.Reading.{range_in, range_of}
-use Rattle.cluster_model.specs.State.{State, Legs}
-use Rattle.cluster_model.specs.Joining.{told_range}
-use Rattle.cluster_model.specs.Opening.{Origin, core_at, held_by_members, bitmap_lock}
+use Rattle.mdc_types.specs.Sectors.{zero_sector}
+use Rattle.cluster_model.specs.State.{State, Core}
+use Rattle.cluster_model.specs.Opening.{Origin, core_at, bitmap_at}
 use Rattle.cluster_model.specs.Contents.{SoundOpening}
 use Rattle.cluster_model.specs.Stored.{data_on}
 use Rattle.md_superblock.specs.Arrays.{Says}
 use Rattle.plain_history.specs.History.{values_at}
+use Rattle.laws_roles.specs.Laws.{Tells}
 use Rattle.laws_roles.proofs.Parts.{ghost_at}
+use Rattle.storage_ways.proofs.Opening.{Begins, begins}
+use Rattle.storage_ways.proofs.Runs.{At}
 use Rattle.storage_ways.proofs.Parts.{Part, part_of, bits_on, told_by}
 use Rattle.laws_writes.proofs.Ghosts.{Ghost, undecided, is_open}
 use Rattle.laws_writes.proofs.Bits.{Bits}
@@ -25,38 +21,27 @@ use Rattle.laws_writes.proofs.Windows.{Windows}
 use Rattle.laws_writes.proofs.Contents.{Contents}
 use Rattle.laws_writes.proofs.Pages.{Pages}
 use Rattle.laws_writes.proofs.Intent.{Intents}
-use Rattle.laws_writes.proofs.FirstMarks.{first_marks}
-use Rattle.laws_writes.proofs.FirstKeepers.{first_ghost, first_keeper, first_values, first_bit, first_pending, keeper_out}
+use Rattle.laws_writes.proofs.FirstKeepers.{first_ghost, first_keeper, first_values, first_some, first_bit, first_pending, keeper_out}
 
-zero_told : told_range (range_in zero_block.bytes) ≡ None
-unfolding zero_block range_in range_of spelled_range
-zero_told = refl
+module _ (o : Origin) (start : State) (sound : SoundOpening o start) (tells : Tells o start) (sup : ℕ → Option Says) (home : ℕ) where
+  begun : Begins o start.legs (At o start sound.opens tells [] start)
+  begun = begins o start sound.opens tells
 
-told_none : (o : Origin) (m : ℕ) → told_by (core_at o).locks m ≡ None
-told_none o m = by (nat_lt m 16 && ((core_at o).locks m).valid)
-  where
-    block : ((core_at o).locks m).block ≡ zero_block
-    block = at (m == ack_res) (m == no_new_dev)
-      where
-        at : (a b : Bool) → (if a then held_by_members o CR else if b then held_by_members o CR else bitmap_lock o m).block ≡ zero_block
-        at true b = refl
-        at false true = refl
-        at false false = refl
+  marked : (n c l : ℕ) → (bitmap_at o n).marks c l ≡ true → bits_on o.sizes start.legs n c l ≡ true
+  marked = subst (λ (core : Core). (n c l : ℕ) → (core.bitmap n).marks c l ≡ true → bits_on o.sizes start.legs n c l ≡ true) sound.opens.core begun.mark_bit
 
-    by : (b : Bool) → (if b then told_range (range_in ((core_at o).locks m).block.bytes) else None) ≡ None
-    by true = ap (λ (x : Block). told_range (range_in x.bytes)) block ∙ zero_told
-    by false = refl
+  told_none : (m : ℕ) → told_by (core_at o).locks m ≡ None
+  told_none = subst (λ (core : Core). (m : ℕ) → told_by core.locks m ≡ None) sound.opens.core begun.told
 
-module _ (o : Origin) (start : State) (sound : SoundOpening o start) (sup : ℕ → Option Says) (home : ℕ) where
   abbrev pub First : Part
-  First = part_of (core_at o) sup (bits_on o.sizes start.legs) (data_on o.sizes start.legs) (ghost_at o home) (values_at o.base)
+  First = part_of (core_at o) sup (bits_on o.sizes start.legs) (data_on o.sizes start.legs) (ghost_at o home) (values_at o.base) (λ n s. false) (λ n s. false)
 
   abbrev ghost : Ghost
   ghost = first_ghost o start.legs
 
   pub first_bits : Bits First
   first_bits = record {
-    mark_bit = λ n c l e. first_marks o start sound.opens sound.told n c l e;
+    mark_bit = λ n c l e. marked n c l e;
     need_set = λ n c e. cc;
     write_set = λ n k s e. cc;
     one_writer = λ n m k j s e f. cc;
@@ -71,7 +56,7 @@ module _ (o : Origin) (start : State) (sound : SoundOpening o start) (sup : ℕ 
     range_shut = λ n e. refl;
     no_write_there = λ n m k s lt e. cc;
     loaded_own = λ n m e. refl;
-    block_own = λ m lt. told_none o m;
+    block_own = λ m lt. told_none m;
     own_why = λ m e. cc;
     own_up = λ m e. refl;
     no_list = λ m k e. refl;
@@ -85,7 +70,7 @@ module _ (o : Origin) (start : State) (sound : SoundOpening o start) (sup : ℕ 
   within : (s : ℕ) → is_open (first_values o s) ≡ true → s < o.sizes.room
   within s e = by (nat_lt s o.sizes.room) refl e
     where
-      by : (b : Bool) → nat_lt s o.sizes.room ≡ b → is_open (if b then values_at o.base s else []) ≡ true → s < o.sizes.room
+      by : (b : Bool) → nat_lt s o.sizes.room ≡ b → is_open (if b then values_at o.base s else zero_sector ∷ []) ≡ true → s < o.sizes.room
       by true t e = grind (arith, nat_tests)
       by false t e = cc
 
@@ -93,6 +78,7 @@ module _ (o : Origin) (start : State) (sound : SoundOpening o start) (sup : ℕ 
   first_contents = record {
     buffer_place = λ n p b e f. cc;
     reached_place = λ n lt. absurd (omega arith);
+    reached_within = λ n lt. absurd (omega arith);
     settled_decided = λ n s e. cc;
     buffer_done = λ n l p b e f g. cc;
     done_holds = λ n k l x e f. cc;
@@ -104,6 +90,7 @@ module _ (o : Origin) (start : State) (sound : SoundOpening o start) (sup : ℕ 
     broke_need = λ n s e. cc;
     broke_undecided = λ n s e. cc;
     undecided_within = λ s e. within s e;
+    some_value = λ s. first_some o start sound s;
   }
 
   pub first_pages : Pages First

@@ -1,7 +1,8 @@
 -- At a sound opening a slot answers for each sector with two values: it marks the chunk on all legs
 -- that work, and waits for its recovery.
-use Rattle.std.proofs.Common.{◌≡◌, ◌⊎◌, inl, inr, ℕ, ◌<◌, ◌≤◌, ◌+◌, ◌==◌, ◌&&◌, ◌||◌, not, if◌then◌else◌, Bool, true, false, length, List, [], ◌∷◌, Option, Some, None, refl, sym, ap, subst, ◌∙◌, arith}
+use Rattle.std.proofs.Common.{◌≡◌, ◌⊎◌, inl, inr, ℕ, zero, suc, ◌<◌, ◌≤◌, ◌+◌, ◌==◌, ◌&&◌, ◌||◌, not, if◌then◌else◌, Bool, true, false, length, List, [], ◌∷◌, Option, Some, None, refl, sym, ap, subst, ◌∙◌, arith}
 use Rattle.std.specs.Prelude.{nat_lt, get_or, is_some, is_none as has_none, unwrap_or, replicate}
+use Rattle.std.specs.Str.{bytes_eq}
 use Rattle.std.proofs.lemmas.Bool.{cases_lt}
 use Rattle.std.proofs.lemmas.Bool.Decides.{nat_tests}
 use Rattle.std.proofs.lemmas.List.{get_or-replicate, get_or_past, length-replicate}
@@ -17,11 +18,11 @@ use Rattle.mdc_types.specs.declared.roles.Role.{Role}
 use Rattle.mdc_types.specs.declared.roles.Role.TheVariants.{Working, Spare}
 use Rattle.plain_history.specs.History.{values_at}
 use Rattle.cluster_model.specs.State.{State, Legs}
-use Rattle.cluster_model.specs.Stored.{bit_on}
+use Rattle.cluster_model.specs.Stored.{bit_on, data_on}
 use Rattle.cluster_model.specs.Opening.{Origin, IsOrigin}
-use Rattle.cluster_model.specs.Contents.{Opens, IsHeader, IsImages, AllTell, SoundOpening, MarksOnAll, works_at, some_mark, is_marked_slot}
+use Rattle.cluster_model.specs.Contents.{Opens, IsHeader, IsImages, AllTell, SoundOpening, MarksOnAll, works_at, some_mark, is_marked_slot, with_new, values_on}
 use Rattle.laws_roles.proofs.InState.{working_role, working_is}
-use Rattle.laws_writes.proofs.Ghosts.{Ghost, undecided, is_open}
+use Rattle.laws_writes.proofs.Ghosts.{Ghost, undecided, is_open, has_value}
 use Rattle.laws_writes.proofs.Places.{chunk_lt}
 
 -- the slot marks the chunk on each leg that works
@@ -32,7 +33,7 @@ abbrev pub first_keeper : Origin → Legs → ℕ → ℕ
 first_keeper o legs s = unwrap_or (first_such (marks_all o legs (chunk_of o.sizes s)) 0 (nodes_of o.sizes)) 0
 
 abbrev pub first_values : Origin → ℕ → List Sector
-first_values o s = if nat_lt s o.sizes.room then values_at o.base s else []
+first_values o s = if nat_lt s o.sizes.room then values_at o.base s else zero_sector ∷ []
 
 -- the ghosts of writes at the opening
 abbrev pub first_ghost : Origin → Legs → Ghost
@@ -90,7 +91,7 @@ open_two (v ∷ u ∷ us) e = omega arith
 two_in_room : (o : Origin) (s : ℕ) → is_open (first_values o s) ≡ true → (s < o.sizes.room) × (1 < length (get_or o.base s []))
 two_in_room o s e = by (nat_lt s o.sizes.room) refl e
   where
-    by : (b : Bool) → nat_lt s o.sizes.room ≡ b → is_open (if b then values_at o.base s else []) ≡ true → (s < o.sizes.room) × (1 < length (get_or o.base s []))
+    by : (b : Bool) → nat_lt s o.sizes.room ≡ b → is_open (if b then values_at o.base s else zero_sector ∷ []) ≡ true → (s < o.sizes.room) × (1 < length (get_or o.base s []))
     by true t e = (grind (arith, nat_tests), open_two (get_or o.base s []) e)
     by false t e = cc
 
@@ -102,15 +103,41 @@ working_below o i l e = elim (cases_lt l 8) [
   | inr le ↦ let few = i.sizes.legs.1 in let spare = ap is_working (i.legs l (omega (arith, few, le))) in cc
 ]
 
-or_given : (a b : Bool) → (not a || b) ≡ true → a ≡ true → b ≡ true
+pub or_given : (a b : Bool) → (not a || b) ≡ true → a ≡ true → b ≡ true
 or_given a b e f = grind arith
 
-given_or : (a b : Bool) → (a ≡ true → b ≡ true) → (not a || b) ≡ true
+pub given_or : (a b : Bool) → (a ≡ true → b ≡ true) → (not a || b) ≡ true
 given_or a b h = by a refl
   where
     by : (x : Bool) → a ≡ x → (not x || b) ≡ true
     by true e = h e
     by false e = refl
+
+-- There is a value at each sector.
+
+new_some : (v : Sector) (vs : List Sector) → has_value (with_new v vs) ≡ true
+new_some v [] = refl
+new_some v (u ∷ us) = by (bytes_eq v.bytes u.bytes)
+  where
+    by : (b : Bool) → has_value (if b then u ∷ us else u ∷ with_new v us) ≡ true
+    by true = refl
+    by false = refl
+
+values_some : (o : Origin) (legs : Legs) (s l n : ℕ) → l < n → works_at o l ≡ true → has_value (values_on o legs s n) ≡ true
+unfolding values_on
+values_some o legs s l zero lt e = absurd (omega (arith, lt))
+values_some o legs s l (suc n) lt e = by (works_at o n) refl (λ le. values_some o legs s l n le e)
+  where
+    by : (b : Bool) → works_at o n ≡ b → (l < n → has_value (values_on o legs s n) ≡ true)
+        → has_value (if b then with_new (data_on o.sizes legs n s) (values_on o legs s n) else values_on o legs s n) ≡ true
+    by true w rest = new_some (data_on o.sizes legs n s) (values_on o legs s n)
+    by false w rest = elim (cases_lt l n) [
+      | inl le ↦ rest le
+      | inr past ↦ let same : l ≡ n = omega (arith, lt, past) in let works = ap (works_at o) same in absurd (not_both (works_at o n) (sym works ∙ e) w)
+    ]
+      where
+        not_both : (b : Bool) → b ≡ true → b ≡ false → ⊥
+        not_both b e f = cc
 
 one_each : (n k : ℕ) (v : List Sector) → length v ≤ 1 → length (get_or (replicate n v) k []) ≤ 1
 one_each n k v few = elim (cases_lt k n) [
@@ -150,6 +177,19 @@ module _ (o : Origin) (start : State) (sound : SoundOpening o start) where
 
   some_leg : (l : ℕ) × (l < 8) × (is_working (role_of o.roles l) ≡ true)
   some_leg = let f = found_passes (λ l. is_working (role_of o.roles l)) 8 sound.opens.origin.leg in (unwrap_or (first_such (λ l. is_working (role_of o.roles l)) 0 8) 0, f.1, f.0)
+
+  pub first_some : (s : ℕ) → has_value (first_values o s) ≡ true
+  first_some s = by (nat_lt s o.sizes.room) refl
+    where
+      at : s < o.sizes.room → has_value (get_or o.base s []) ≡ true
+      at lt = elim sound.opens.contents [
+        | inl h ↦ ap (λ (x : Origin). has_value (get_or x.base s [])) h.header ∙ ap has_value (get_or-replicate o.sizes.room s (zero_sector ∷ []) [] lt)
+        | inr h ↦ let l = some_leg in ap has_value ((h.contents sound.told).base s lt) ∙ values_some o start.legs s l.0 8 l.1 l.2
+      ]
+
+      by : (b : Bool) → nat_lt s o.sizes.room ≡ b → has_value (if b then values_at o.base s else zero_sector ∷ []) ≡ true
+      by true t = at (grind (arith, nat_tests))
+      by false t = refl
 
   -- it is one of the images' pending slots, since a leg that works has its bit
   pub first_pending : (s : ℕ) → is_open (first_values o s) ≡ true → has_bit o.pending (first_keeper o start.legs s) ≡ true

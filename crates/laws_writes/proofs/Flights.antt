@@ -81,3 +81,27 @@ none_asked w n s k v new x a i u same = by (write_of w a i) refl
     by : (y : Option LiveWrite) → write_of w a i ≡ y → writes_at y u ≡ true → ⊥
     by None is e = cc
     by (Some y) is e = let there = x.alone a i y is in grind (arith, nat_tests)
+
+-- which write it was
+
+pub record IsAt (n k : ℕ) (z : Option LiveWrite) (a i : ℕ) (y : LiveWrite) : Type 0 where
+  pub node : a ≡ n
+  pub number : i ≡ k
+  pub is : z ≡ Some y
+
+pub record IsElse (writes : ℕ → List LiveWrite) (n k a i : ℕ) (y : LiveWrite) : Type 0 where
+  pub apart : a ≡ n → i ≡ k → ⊥
+  pub was : write_in i (writes a) ≡ Some y
+
+differ : (a n : ℕ) → (a == n) ≡ false → a ≡ n → ⊥
+differ a n e is = let both : true ≡ false = sym (ap (λ x. x == n) is ∙ same_nat n) ∙ e in cc
+
+pub flown : (writes : ℕ → List LiveWrite) (n k : ℕ) (new : List LiveWrite) (z : Option LiveWrite) → Finds new (writes n) k z
+    → (a i : ℕ) (y : LiveWrite) → write_in i (with_at writes n new a) ≡ Some y → IsAt n k z a i y ⊎ IsElse writes n k a i y
+flown writes n k new z finds a i y = by (a == n) refl (i == k) refl (finds i)
+  where
+    by : (b : Bool) → (a == n) ≡ b → (d : Bool) → (i == k) ≡ d → write_in i new ≡ (if d then z else write_in i (writes n))
+        → write_in i (if b then new else writes a) ≡ Some y → IsAt n k z a i y ⊎ IsElse writes n k a i y
+    by false t d e f h = inr (record { apart = λ is more. differ a n t is; was = h })
+    by true t true e f h = inl (record { node = is_same a n t; number = is_same i k e; is = sym f ∙ h })
+    by true t false e f h = inr (record { apart = λ is more. differ i k e more; was = ap (λ m. write_in i (writes m)) (is_same a n t) ∙ sym f ∙ h })

@@ -1,6 +1,6 @@
 -- What a dead slot answers for is found by its recoverer, needed there and marked by it on all its
 -- targets, before anything is cleared.
-use Rattle.std.proofs.Common.{◌≡◌, ℕ, ◌==◌, ◌<◌, Bool, true, false, Option, Some, None, refl, sym, ap, subst, ◌∙◌, arith}
+use Rattle.std.proofs.Common.{◌≡◌, ℕ, true, Some, refl, sym, ap, subst, ◌∙◌, arith}
 use Rattle.std.proofs.lemmas.Bool.Decides.{nat_tests}
 use Rattle.mdc_types.specs.Geometry.{page_of}
 use Rattle.leg_failure.specs.Views.{is_target}

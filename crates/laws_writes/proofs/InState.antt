@@ -30,13 +30,15 @@ use Rattle.laws_roles.proofs.Parts.{supers}
 use Rattle.laws_roles.proofs.Parts as roles
 use Rattle.storage_ways.proofs.Parts.{Part, bits_on, write_of, writes_at, is_range, offered_range, tells_range, waits, own, has_pass}
 use Rattle.storage_ways.proofs.Place.{Around, here, Place, sound_of}
+use Rattle.storage_ways.specs.Broken.{broken_in}
+use Rattle.mdc_types.specs.declared.outcomes.Entry.{Entry}
 use Rattle.laws_writes.specs.Laws.{WritesHold, BitsHold, WindowsHold, CopiesHold}
 use Rattle.laws_writes.proofs.Ghosts.{Ghost, undecided, is_open}
 use Rattle.laws_writes.proofs.Bits.{Bits}
 use Rattle.laws_writes.proofs.Windows.{Windows}
 use Rattle.laws_writes.proofs.Contents.{Contents}
 use Rattle.laws_writes.proofs.Intent.{Intents}
-use Rattle.laws_writes.proofs.Values.{two_open}
+use Rattle.laws_writes.proofs.Values.{BrokenAre}
 
 pub found_there : (x : Option LiveWrite) (w : LiveWrite) → x ≡ Some w → writes_at x w.sector ≡ true
 found_there x w e = ap (λ y. writes_at y w.sector) e ∙ same w.sector
@@ -85,11 +87,12 @@ module _ (state : State) (g : Ghost) (a : Around) (p : Place state.core a) (bit_
         (same_number n m (b.one_writer n m k j w.sector first second), same_number k j (b.one_write n m k j w.sector first second));
   }
 
-  pub bits_hold : Bits W → BitsHold state
-  bits_hold b = record {
+  pub bits_hold : (past : List Entry) → a.broken ≡ broken_in past → Bits W → Contents W g → BrokenAre W g → BitsHold past state
+  bits_hold past broken_is b c broken = record {
     marks = λ n c l e. both_true (nat_lt n (nodes_of (sizes state.core))) _ (ap (λ f. f n c l) (sym bit_is) ∙ b.mark_bit n c l e);
     writes = λ n k w is. b.write_set n k w.sector (found_there (write_in k (state.core.writes n)) w is);
     need = λ n c e. b.need_set n c e;
+    broken = λ n s live e. c.broke_need n s (broken n s live (ap (λ f. f n s) broken_is ∙ e));
   }
 
   pub copies_hold : Windows W → CopiesHold state

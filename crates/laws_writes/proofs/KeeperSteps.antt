@@ -1,15 +1,11 @@
 -- Each way keeps who answers for the open writes of a sector, and that he needs its chunk.
-use Rattle.std.proofs.Common.{◌≡◌, ◌≢◌, ℕ, ◌==◌, ◌&&◌, ◌||◌, not, if◌then◌else◌, Bool, true, false, Option, Some, None, [], refl, sym, ap, subst, ◌∙◌, arith}
+use Rattle.std.proofs.Common.{◌≡◌, ℕ, ◌==◌, not, Bool, true, false, refl, ap, ◌∙◌, arith}
 use Rattle.std.proofs.lemmas.Bool.Decides.{nat_tests}
-use Rattle.dlm_modes.specs.Points.{with_at}
 use Rattle.mdc_types.specs.declared.roles.NodeState.{NodeState}
 use Rattle.mdc_types.specs.declared.roles.NodeState.TheVariants as states
-use Rattle.mirror_io.specs.declared.live.LiveWrite.{LiveWrite}
-use Rattle.mirror_io.specs.Flight.{write_in}
-use Rattle.node_recovery.specs.Progress.{Recovering}
 use Rattle.cluster_model.specs.Guards.{is_out}
 use Rattle.cluster_model.specs.Phases.{is_up}
-use Rattle.storage_ways.proofs.Parts.{Part, chunk_in, recovers, found_in, write_of, writes_at, has_started}
+use Rattle.storage_ways.proofs.Parts.{Part, chunk_in}
 use Rattle.storage_ways.proofs.Sound.{Sound}
 use Rattle.storage_ways.proofs.Ways.{Way}
 use Rattle.storage_ways.proofs.Ways as ways
@@ -17,7 +13,7 @@ use Rattle.laws_writes.proofs.Ghosts.{Ghost, undecided, ghost_after}
 use Rattle.laws_writes.proofs.Bits.{Bits}
 use Rattle.laws_writes.proofs.Contents.{Contents}
 use Rattle.laws_writes.proofs.Pages.{Pages}
-use Rattle.laws_writes.proofs.Intent.{Intents, Keeper, KeeperNeed, KeeperRead}
+use Rattle.laws_writes.proofs.Intent.{Intents, Keeper}
 use Rattle.laws_writes.proofs.Heirs.{heir_found, heir_need}
 
 up_live : (x : NodeState) (b : Bool) → is_up x ≡ true → b ≡ not (is_out x) → b ≡ true

@@ -17,7 +17,7 @@ use Rattle.laws_roles.proofs.Parts as roles
 use Rattle.laws_roles.proofs.Parts.{number, said_role, supers}
 use Rattle.storage_ways.proofs.Parts.{Part}
 use Rattle.storage_ways.proofs.Place.{Around, here, Place, sound_of}
-use Rattle.storage_ways.proofs.Moving.{around}
+use Rattle.storage_ways.proofs.Moving.{Traced, around}
 use Rattle.storage_ways.proofs.Roled.{served_good}
 use Rattle.storage_ways.proofs.Sound.{Sound}
 use Rattle.laws_writes.proofs.Ghosts.{Ghost, undecided, is_open}
@@ -32,12 +32,12 @@ or_sum false b e = inr e
 both : (a b : Bool) → (a && b) ≡ true → (a ≡ true) × (b ≡ true)
 both a b e = grind arith
 
-module _ (state : State) (rg : roles.Ghost) (values : ℕ → List Sector) (p : Place state.core (around state.core state.legs rg values)) where
+module _ (state : State) (rg : roles.Ghost) (tr : Traced) (p : Place state.core (around state.core state.legs rg tr)) where
   abbrev pub W : Part
-  W = here state.core (around state.core state.legs rg values)
+  W = here state.core (around state.core state.legs rg tr)
 
   sound : Sound W
-  sound = sound_of state.core (around state.core state.legs rg values) p
+  sound = sound_of state.core (around state.core state.legs rg tr) p
 
   pub trusted_good : (l : ℕ) → Trusted state l → rg.good l ≡ true
   trusted_good l (inl s) = served_good W sound s.node l (up_in (state.core.state s.node) s.up) s.works
@@ -55,12 +55,12 @@ module _ (state : State) (rg : roles.Ghost) (values : ℕ → List Sector) (p : 
       let leg : ℕ = unwrap_or (first_such (λ l. is_working (role_of says.roles l)) 0 8) 0 in
       (leg, p.roles.super_good rg.home leg (subst (λ x. state.core.members.completed ≤ number x) (sym is) new) (ap (λ x. is_working (said_role x leg)) is ∙ found.0))
 
-  some_good : (l : ℕ) × (rg.good l ≡ true)
+  pub some_good : (l : ℕ) × (rg.good l ≡ true)
   some_good = home_good (super_on state.core.array state.legs rg.home) refl p.numbers.home_current
 
-  pub intent_holds : (g : Ghost) → Intents W g → ValuesAre W g → Intent state values
+  pub intent_holds : (g : Ghost) → Intents W g → ValuesAre W g → Intent state tr.values
   intent_holds g i v s lt two =
-      let split : undecided g s ≡ true = ap is_open (v s lt) ∙ two_open (values s) two in
+      let split : undecided g s ≡ true = ap is_open (v s lt) ∙ two_open (tr.values s) two in
       let some = some_good in
       let slot = sound.within.slots (g.keeper s) (chunk_of (sizes state.core) s) some.0 (i.keeper_bit s some.0 split some.1) in
       record {

@@ -1,22 +1,17 @@
 -- Each way keeps that the keeper's bit stands on good legs.
-use Rattle.std.proofs.Common.{◌≡◌, ◌≢◌, ℕ, ◌==◌, ◌&&◌, ◌||◌, not, if◌then◌else◌, Bool, true, false, Option, Some, None, [], refl, sym, ap, subst, ◌∙◌, arith}
-use Rattle.std.specs.Prelude.{option_map}
+use Rattle.std.proofs.Common.{◌≡◌, ℕ, ◌==◌, ◌&&◌, if◌then◌else◌, Bool, true, false, Option, Some, None, refl, ap, subst, ◌∙◌, arith}
 use Rattle.std.proofs.lemmas.Bool.Decides.{nat_tests}
 use Rattle.mdc_types.specs.Geometry.{page_of}
-use Rattle.mdc_types.specs.Roles.{is_working, is_rebuilding}
-use Rattle.leg_failure.specs.Views.{is_target, NodeView}
+use Rattle.leg_failure.specs.Views.{is_target}
 use Rattle.mirror_io.specs.declared.live.LiveWrite.{LiveWrite}
 use Rattle.resync_worker.specs.Copying.{Passing}
-use Rattle.cluster_model.specs.State.{Copy, Offer}
-use Rattle.cluster_model.specs.Changes.{covering}
-use Rattle.cluster_model.specs.Phases.{is_metadata}
+use Rattle.cluster_model.specs.State.{Offer}
 use Rattle.laws_roles.proofs.Parts.{promotes}
-use Rattle.laws_roles.proofs.Parts as roles
-use Rattle.storage_ways.proofs.Parts.{Part, chunk_in, covers, todo, todo_in, with_page}
+use Rattle.storage_ways.proofs.Parts.{Part, chunk_in, todo_in, with_page}
 use Rattle.storage_ways.proofs.Sound.{Sound}
 use Rattle.storage_ways.proofs.Ways.{Way, Trying, Offering}
 use Rattle.storage_ways.proofs.Ways as ways
-use Rattle.storage_ways.proofs.Roled.{good_target, covers_target, again_target}
+use Rattle.storage_ways.proofs.Roled.{good_target}
 use Rattle.laws_writes.proofs.Ghosts.{Ghost, undecided, ghost_after}
 use Rattle.laws_writes.proofs.Bits.{Bits}
 use Rattle.laws_writes.proofs.Contents.{Contents}

@@ -1,12 +1,12 @@
 -- Each way keeps that the keeper of an open write needs its chunk, or has the write.
-use Rattle.std.proofs.Common.{◌≡◌, ◌≢◌, ℕ, ◌==◌, ◌&&◌, ◌||◌, not, if◌then◌else◌, Bool, true, false, Option, Some, None, List, [], ◌∷◌, ◌++◌, refl, sym, ap, subst, ◌∙◌, arith}
+use Rattle.std.proofs.Common.{◌≡◌, ℕ, ◌==◌, ◌&&◌, ◌||◌, not, if◌then◌else◌, Bool, true, false, Option, Some, None, List, [], ◌∷◌, ◌++◌, refl, ap, subst, ◌∙◌, arith}
 use Rattle.std.proofs.lemmas.Bool.Decides.{nat_tests}
 use Rattle.dlm_modes.specs.Points.{with_at}
 use Rattle.mdc_types.specs.declared.numbers.Sector.{Sector}
 use Rattle.mirror_io.specs.declared.live.LiveWrite.{LiveWrite}
 use Rattle.mirror_io.specs.Flight.{write_in, without_write, start_in, done_in, started, done_on}
 use Rattle.node_bitmaps.specs.Bitmap.{exited, with_need, found_page}
-use Rattle.storage_ways.proofs.Parts.{Part, chunk_in, recovers, found_in, write_of, writes_at, has_started}
+use Rattle.storage_ways.proofs.Parts.{Part, chunk_in, writes_at, has_started}
 use Rattle.storage_ways.proofs.Sound.{Sound}
 use Rattle.storage_ways.proofs.Ways.{Way, Finds}
 use Rattle.storage_ways.proofs.Ways as ways

@@ -1,18 +1,16 @@
 -- Each way keeps what is known of open recoveries.
-use Rattle.std.proofs.Common.{◌≡◌, ℕ, ◌==◌, ◌&&◌, ◌||◌, if◌then◌else◌, Bool, true, false, Option, Some, None, refl, sym, ap, ◌∙◌, arith}
+use Rattle.std.proofs.Common.{◌≡◌, ℕ, ◌==◌, ◌&&◌, ◌||◌, if◌then◌else◌, Bool, true, false, Option, Some, refl, sym, ap, ◌∙◌, arith}
 use Rattle.dlm_modes.specs.Points.{with_at}
-use Rattle.std.specs.Prelude.{is_some}
 use Rattle.std.proofs.lemmas.Bool.Decides.{nat_tests}
 use Rattle.mdc_types.specs.Geometry.{page_of}
 use Rattle.mdc_types.specs.Pages.{done_at}
 use Rattle.node_recovery.specs.Progress.{Recovering, begun, with_read, with_found, with_cleared}
-use Rattle.cluster_model.specs.Phases.{is_up}
 use Rattle.storage_ways.proofs.Parts.{Part, recovers, found_in, read_in, cleared_in, is_heir, with_page}
 use Rattle.storage_ways.proofs.Sound.{Sound}
 use Rattle.storage_ways.proofs.Ways.{Way}
 use Rattle.storage_ways.proofs.Ways as ways
 use Rattle.laws_writes.proofs.Pages.{Pages, NoHeir, RecoveryHeir, ReadFound, Cleared}
-use Rattle.laws_writes.proofs.Recoverers.{slot_pending, slot_down, turn_held}
+use Rattle.laws_writes.proofs.Recoverers.{slot_down, turn_held}
 
 done_at-is : (f : ℕ → ℕ → Bool) (p l q k : ℕ) → done_at f p l q k ≡ (((q == p) && (k == l)) || f q k)
 done_at-is f p l q k = grind (arith, nat_tests)

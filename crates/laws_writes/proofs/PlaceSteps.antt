@@ -1,10 +1,10 @@
 -- Each way keeps where a pass stands in its window.
-use Rattle.std.proofs.Common.{◌≡◌, ◌⊎◌, inl, inr, ℕ, ◌+◌, ◌<◌, ◌==◌, ◌&&◌, if◌then◌else◌, Bool, true, false, Option, Some, None, option_map, refl, sym, ap, ap₂, subst, ◌∙◌, arith}
+use Rattle.std.proofs.Common.{◌≡◌, ℕ, ◌<◌, Bool, false, Option, Some, None, option_map, refl, sym, ap, subst, ◌∙◌, arith}
 use Rattle.mdc_types.specs.Geometry.{Sizes, IsGeometry, chunk_of}
 use Rattle.mdc_types.specs.declared.numbers.Range.{Range}
 use Rattle.mdc_types.specs.declared.numbers.Sector.{Sector}
 use Rattle.resync_worker.specs.Copying.{Passing, filled, copied, settled_at, covering_only, done_on}
-use Rattle.resync_worker.specs.Sectors.{is_behind, ends_chunk, reached_after, todo_after, first_chunk_in}
+use Rattle.resync_worker.specs.Sectors.{ends_chunk, todo_after, first_chunk_in}
 use Rattle.resync_worker.specs.declared.buffer.Buffer.{Buffer}
 use Rattle.cluster_model.specs.State.{Copy}
 use Rattle.cluster_model.specs.Copying.{next_for}
@@ -15,7 +15,7 @@ use Rattle.laws_writes.proofs.Ghosts.{Ghost}
 use Rattle.laws_writes.proofs.Windows.{Windows}
 use Rattle.laws_writes.proofs.Contents.{Contents, BufferPlace, ReachedPlace, ReachedWithin, here_by}
 use Rattle.laws_writes.proofs.Chunks.{next_chunk, reached_more}
-use Rattle.laws_writes.proofs.Moves.{Move, moves, same_geometry}
+use Rattle.laws_writes.proofs.Moves.{Move, Settling, moves, same_geometry}
 use Rattle.laws_writes.proofs.Moves as move
 
 record Placed (g : Sizes) (p : Option Passing) (r : Option Range) : Type 0 where
@@ -115,17 +115,17 @@ placed_settled g i p b r is room o = record {
   within = λ lt. let m = reached_more g b.sector i room lt in subst (λ x. x < g.room) (sym m.1) m.3;
 }
 
-placed_move : (g : Sizes) → IsGeometry g → (c d : Copy) → Move g c d → Placed g c.pass c.window → Placed g d.pass d.window
-placed_move g i c d (move.keeps p r) o = subst (λ x. Placed g d.pass x) (sym r) (subst (λ x. Placed g x c.window) (sym p) o)
-placed_move g i c d (move.covers legs p r) o = subst (λ x. Placed g d.pass x) (sym r) (subst (λ x. Placed g x c.window) (sym p) (placed_covered g legs c.pass c.window o))
-placed_move g i c d (move.restarts none empty) o = placed_restarted g d.pass d.window none empty
-placed_move g i c d (move.opens shut p) o = subst (λ x. Placed g x d.window) (sym p) (placed_opened g c.pass c.window d.window shut o)
-placed_move g i c d (move.fills s l v p is q r next) o =
+placed_move : (g : Sizes) → IsGeometry g → (stored : ℕ → ℕ → Sector) (c d : Copy) (Is : ℕ → Type 0) → Move g stored c d Is → Placed g c.pass c.window → Placed g d.pass d.window
+placed_move g i stored c d Is (move.keeps p r) o = subst (λ x. Placed g d.pass x) (sym r) (subst (λ x. Placed g x c.window) (sym p) o)
+placed_move g i stored c d Is (move.covers legs p r) o = subst (λ x. Placed g d.pass x) (sym r) (subst (λ x. Placed g x c.window) (sym p) (placed_covered g legs c.pass c.window o))
+placed_move g i stored c d Is (move.restarts none empty) o = placed_restarted g d.pass d.window none empty
+placed_move g i stored c d Is (move.opens shut p) o = subst (λ x. Placed g x d.window) (sym p) (placed_opened g c.pass c.window d.window shut o)
+placed_move g i stored c d Is (move.fills s l v p is q r next has) o =
     subst (λ x. Placed g d.pass x) (sym r) (subst (λ x. Placed g x c.window) (sym q)
     (placed_filled g p s l v c.window (ap (λ x. next_for g x c.window) (sym is) ∙ next) (subst (λ x. Placed g x c.window) is o)))
-placed_move g i c d (move.copies l p is q r) o =
+placed_move g i stored c d Is (move.copies l p b is there has q r) o =
     subst (λ x. Placed g d.pass x) (sym r) (subst (λ x. Placed g x c.window) (sym q) (placed_copied g p l c.window (subst (λ x. Placed g x c.window) is o)))
-placed_move g i c d (move.settles p b is there room q r) o =
+placed_move g i stored c d Is (move.settles p b is there room at q r) o =
     subst (λ x. Placed g d.pass x) (sym r) (subst (λ x. Placed g x c.window) (sym q) (placed_settled g i p b c.window there room (subst (λ x. Placed g x c.window) is o)))
 
 placed : (w : Part) (g : Ghost) → Contents w g → (n : ℕ) → Placed w.geometry (w.copy n).pass (w.copy n).window
@@ -142,7 +142,7 @@ placed w g con n = record {
 placed_after : (w v : Part) → Way w v → (g : Ghost) → Sound w → Windows w → Contents w g → (n : ℕ) → Placed v.geometry (v.copy n).pass (v.copy n).window
 placed_after w v x g sound win con n =
     subst (λ z. Placed z (v.copy n).pass (v.copy n).window) (sym (same_geometry w v x))
-    (placed_move w.geometry sound.within.geometry (w.copy n) (v.copy n) (moves w v x sound win n) (placed w g con n))
+    (placed_move w.geometry sound.within.geometry v.stored (w.copy n) (v.copy n) (Settling x n) (moves w v x sound win n) (placed w g con n))
 
 pub buffer_place : (w v : Part) → Way w v → (g : Ghost) → Sound w → Windows w → Contents w g → BufferPlace v
 buffer_place w v x g sound win con n p b is there = (placed_after w v x g sound win con n).buffer b (ap buffer_in is ∙ there)

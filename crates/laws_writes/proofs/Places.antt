@@ -1,6 +1,6 @@
 -- Chunks, pages, and the sectors of a chunk that were settled in a window.
-use Rattle.std.proofs.Common.{◌≡◌, ◌≢◌, inl, inr, ℕ, ◌+◌, ◌-◌, ◌*◌, ◌/◌, ◌%◌, ◌<◌, ◌≤◌, ◌==◌, ◌&&◌, ◌||◌, if◌then◌else◌, Bool, true, false, Option, Some, None, refl, sym, ap, subst, ◌∙◌, arith}
-use Rattle.std.specs.Prelude.{nat_lt, nat_le, option_map}
+use Rattle.std.proofs.Common.{◌≡◌, ◌≢◌, inl, inr, ℕ, ◌+◌, ◌-◌, ◌*◌, ◌/◌, ◌<◌, ◌≤◌, if◌then◌else◌, Bool, true, false, Option, Some, None, sym, ap, subst, ◌∙◌, arith}
+use Rattle.std.specs.Prelude.{option_map}
 use Rattle.std.proofs.Math.Nat.{div-mul-le_self, lt-div-mul-add}
 use Rattle.std.proofs.lemmas.Bool.{cases_lt}
 use Rattle.std.proofs.lemmas.Bool.Decides.{nat_tests}
@@ -10,7 +10,6 @@ use Rattle.mdc_types.specs.Ranges.{holds}
 use Rattle.mdc_types.specs.declared.numbers.Range.{Range}
 use Rattle.resync_worker.specs.Copying.{Passing}
 use Rattle.resync_worker.specs.Sectors.{first_chunk_in, place_in, is_behind, ends_chunk}
-use Rattle.resync_worker.specs.declared.buffer.Buffer.{Buffer}
 use Rattle.resync_worker.proofs.SectorLaws.{chunk_of-lt}
 use Rattle.cluster_model.specs.Copying.{next_for}
 use Rattle.storage_ways.proofs.Parts.{Part, chunk_in, has_pass, reached_in}

@@ -1,10 +1,9 @@
 -- No live write of any node lies in the chunk that a pass copies in its window.
-use Rattle.std.proofs.Common.{◌≡◌, ℕ, ◌<◌, ◌==◌, ◌&&◌, ◌||◌, Bool, true, false, Option, Some, None, List, [], refl, sym, ap, subst, ◌∙◌, arith}
+use Rattle.std.proofs.Common.{◌≡◌, ℕ, ◌<◌, ◌==◌, ◌&&◌, Bool, true, false, Option, Some, None, [], refl, sym, ap, subst, ◌∙◌, arith}
 use Rattle.std.specs.Prelude.{is_some, not}
 use Rattle.msg_rounds.specs.Phases.{has_processed}
 use Rattle.resync_worker.specs.Sectors.{is_behind}
 use Rattle.resync_worker.specs.declared.buffer.Buffer.{Buffer}
-use Rattle.std.proofs.lemmas.Bool.Decides.{nat_tests}
 use Rattle.mdc_types.specs.Ranges.{holds}
 use Rattle.mdc_types.specs.declared.numbers.Range.{Range}
 use Rattle.mdc_types.specs.declared.roles.NodeState.{NodeState}
@@ -15,8 +14,7 @@ use Rattle.resync_worker.specs.Copying.{Passing}
 use Rattle.suspend_ranges.specs.Suspended.{suspends}
 use Rattle.cluster_model.specs.Guards.{is_out}
 use Rattle.cluster_model.specs.Phases.{is_up}
-use Rattle.mdc_types.specs.Geometry.{Sizes}
-use Rattle.storage_ways.proofs.Parts.{Part, chunk_in, write_of, writes_at, own, waits, tells_range, has_pass, reached_in}
+use Rattle.storage_ways.proofs.Parts.{Part, chunk_in, write_of, writes_at, waits, tells_range, has_pass, reached_in}
 use Rattle.storage_ways.proofs.Sound.{Sound}
 use Rattle.laws_writes.proofs.Windows.{Windows}
 use Rattle.laws_writes.proofs.Contents.{Contents, here, here_by, is_settled}

@@ -1,5 +1,5 @@
 -- When a sector is settled that completes its chunk, no other sector of the chunk is undecided.
-use Rattle.std.proofs.Common.{◌≡◌, ◌≢◌, ℕ, ◌==◌, ◌<◌, if◌then◌else◌, Bool, true, false, Option, Some, None, refl, sym, ap, subst, ◌∙◌, arith}
+use Rattle.std.proofs.Common.{◌≡◌, ◌≢◌, ℕ, ◌==◌, if◌then◌else◌, Bool, true, false, Some, None, refl, ap, arith}
 use Rattle.std.specs.Prelude.{is_some}
 use Rattle.std.proofs.lemmas.Bool.Decides.{nat_tests}
 use Rattle.dlm_modes.specs.Points.{with_at}
@@ -9,7 +9,7 @@ use Rattle.resync_worker.specs.Copying.{Passing, completes, settled_at}
 use Rattle.resync_worker.specs.Sectors.{ends_chunk}
 use Rattle.resync_worker.specs.declared.buffer.Buffer.{Buffer}
 use Rattle.cluster_model.specs.Copying.{need_met}
-use Rattle.storage_ways.proofs.Parts.{Part, chunk_in, has_pass}
+use Rattle.storage_ways.proofs.Parts.{Part, chunk_in}
 use Rattle.storage_ways.proofs.Sound.{Sound}
 use Rattle.storage_ways.proofs.Ways.{Settles}
 use Rattle.laws_writes.proofs.Ghosts.{Ghost, undecided}

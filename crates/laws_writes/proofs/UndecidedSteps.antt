@@ -1,5 +1,5 @@
 -- Each way keeps what sectors may be undecided.
-use Rattle.std.proofs.Common.{ℕ, ◌==◌, ◌<◌, true, false, arith}
+use Rattle.std.proofs.Common.{arith}
 use Rattle.std.proofs.lemmas.Bool.Decides.{nat_tests}
 use Rattle.storage_ways.proofs.Parts.{Part}
 use Rattle.storage_ways.proofs.Ways.{Way}

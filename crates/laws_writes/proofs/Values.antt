@@ -19,6 +19,21 @@ values_step w v (ways.ends n k x e) g i s = grind (arith, nat_tests, i s)
 values_step w v (ways.settles n p b e) g i s = grind (arith, nat_tests, i s)
 values_step w v x g i s = i s
 
+-- of live nodes, where writes were broken
+abbrev pub BrokenAre : Part → Ghost → Type 0
+BrokenAre w g = (n s : ℕ) → w.live n ≡ true → w.broken n s ≡ true → g.broke n s ≡ true
+
+pub broken_step : (w v : Part) (x : Way w v) (g : Ghost) → BrokenAre w g → BrokenAre v (ghost_after x g)
+broken_step w v (ways.joins n e) g i m s = grind (arith, nat_tests, i m s)
+broken_step w v (ways.leaves n e) g i m s = grind (arith, nat_tests, i m s)
+broken_step w v (ways.quits n e) g i m s = grind (arith, nat_tests, i m s)
+broken_step w v (ways.parts n o e) g i m s = grind (arith, nat_tests, i m s)
+broken_step w v (ways.dies n told e) g i m s = grind (arith, nat_tests, i m s)
+broken_step w v (ways.ends n k x e) g i m s = grind (arith, nat_tests, i m s)
+broken_step w v (ways.breaks n k x e) g i m s = grind (arith, nat_tests, i m s)
+broken_step w v (ways.settles n p b e) g i m s = grind (arith, nat_tests, i m s)
+broken_step w v x g i m s = i m s
+
 -- What tests of the ghosts say.
 
 or_cases : (a b : Bool) → (a || b) ≡ true → a ≡ false → b ≡ true

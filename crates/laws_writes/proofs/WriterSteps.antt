@@ -1,5 +1,5 @@
 -- Each way keeps that a sector has one live write.
-use Rattle.std.proofs.Common.{◌≡◌, ◌⊎◌, inl, inr, ℕ, ◌==◌, Bool, true, false, Option, Some, None, List, refl, sym, ap, ◌∙◌, arith}
+use Rattle.std.proofs.Common.{◌≡◌, ◌⊎◌, inl, inr, ℕ, ◌==◌, true, List, arith}
 use Rattle.std.proofs.lemmas.Bool.Decides.{nat_tests}
 use Rattle.mdc_types.specs.declared.numbers.Sector.{Sector}
 use Rattle.mirror_io.specs.declared.live.LiveWrite.{LiveWrite}
@@ -8,7 +8,7 @@ use Rattle.storage_ways.proofs.Sound.{Sound}
 use Rattle.storage_ways.proofs.Ways.{Way, Asking}
 use Rattle.storage_ways.proofs.Ways as ways
 use Rattle.laws_writes.proofs.Bits.{Bits, OneWriter, OneWrite}
-use Rattle.laws_writes.proofs.Flights.{same_nat, was_out, was_missed, was_ended, was_dead, IsAsked, asked_or_was, none_asked}
+use Rattle.laws_writes.proofs.Flights.{was_out, was_missed, was_ended, was_dead, IsAsked, asked_or_was, none_asked}
 
 same_both : (a b c : ℕ) → a ≡ c → b ≡ c → (a == b) ≡ true
 same_both a b c e f = grind (arith, nat_tests)

@@ -25,6 +25,7 @@ use Rattle.cluster_model.specs.Run.{Run}
 use Rattle.cluster_model.specs.Served.{Intent, Marked}
 use Rattle.cluster_model.specs.Stored.{data_on}
 use Rattle.laws_roles.specs.Laws.{Tells}
+use Rattle.storage_ways.specs.Broken.{broken_in}
 
 -- along each run from a sound opening, over legs that tell their contents
 abbrev pub Always : (Origin → State → List Entry → State → Type 0) → Type 0
@@ -49,16 +50,19 @@ abbrev pub RunsHoldWrites : Type 0
 RunsHoldWrites = Always (λ o start past end. WritesHold end)
 
 -- Bitmaps.
-pub record BitsHold (state : State) : Type 0 where
+pub record BitsHold (past : List Entry) (state : State) : Type 0 where
   -- a bit that surely stands on a leg stands there
   pub marks : (n c l : ℕ) → (state.core.bitmap n).marks c l ≡ true → Marked state n c l
   -- the chunk of a write in flight is in its node's set, and so is each that is to be copied
   pub writes : (n k : ℕ) (w : LiveWrite) → write_in k (state.core.writes n) ≡ Some w
       → (state.core.bitmap n).set (chunk_of (sizes state.core) w.sector) ≡ true
   pub need : (n c : ℕ) → (state.core.bitmap n).need c ≡ true → (state.core.bitmap n).set c ≡ true
+  -- a live node is to copy the chunk of a write that was broken there and is still open
+  pub broken : (n s : ℕ) → state.core.members.live n ≡ true → broken_in past n s ≡ true
+      → (state.core.bitmap n).need (chunk_of (sizes state.core) s) ≡ true
 
 abbrev pub RunsHoldBits : Type 0
-RunsHoldBits = Always (λ o start past end. BitsHold end)
+RunsHoldBits = Always (λ o start past end. BitsHold past end)
 
 -- Windows. An open one is suspended at each node that is up, and no write in flight lies in it;
 -- and so it is with a range whose round is granted, where it isn't empty.

@@ -1,29 +1,17 @@
 -- What is known between the ways of one event: a transfer that failed, and then the leg that is lost,
 -- or the write that is broken.
-use Rattle.std.proofs.Common.{◌≡◌, ◌≢◌, inl, inr, ℕ, ◌<◌, ◌≤◌, ◌==◌, ◌&&◌, Bool, true, false, not, if◌then◌else◌, List, [], ◌∷◌, Option, Some, None, refl, sym, ap, subst, ◌∙◌, arith}
-use Rattle.std.specs.Prelude.{is_some}
+use Rattle.std.proofs.Common.{◌≡◌, ℕ, ◌<◌, ◌==◌, ◌&&◌, Bool, true, false, if◌then◌else◌, List, [], Some, refl, sym, ap, subst, ◌∙◌, arith}
 use Rattle.std.proofs.lemmas.Bool.Decides.{nat_tests}
 use Rattle.dlm_modes.specs.Points.{with_at}
 use Rattle.mdc_types.specs.Geometry.{chunks_of, nodes_of, page_of}
 use Rattle.mdc_types.specs.declared.numbers.Sector.{Sector}
-use Rattle.md_superblock.specs.Arrays.{Says}
 use Rattle.mirror_io.specs.Flight.{write_in, start_in, started}
 use Rattle.mirror_io.specs.declared.live.LiveWrite.{LiveWrite}
-use Rattle.msg_rounds.specs.Phases.{is_idle, has_published}
-use Rattle.msg_rounds.specs.declared.phases.SenderPhase.{SenderPhase}
-use Rattle.msg_rounds.specs.declared.phases.SenderPhase.TheVariants as senders
 use Rattle.node_bitmaps.specs.Bitmap.{Bitmap, failed}
-use Rattle.cluster_model.specs.State.{Offer, NotAsked}
-use Rattle.cluster_model.specs.Phases.{is_in, is_up, is_metadata, is_unclean, offers as offers_wish}
-use Rattle.laws_locks.specs.Rounded.{has_token, stands}
-use Rattle.laws_roles.proofs.Ways as role_ways
-use Rattle.laws_roles.proofs.AdditionSteps.{additions_step}
-use Rattle.laws_roles.proofs.SourceSteps.{sources_step}
-use Rattle.laws_roles.proofs.NumberSteps.{numbers_step}
-use Rattle.laws_roles.proofs.LateSteps.{roles_step}
-use Rattle.storage_ways.proofs.Parts.{Part, roles_of, with_page_if}
-use Rattle.storage_ways.proofs.Sound.{Sound, Phases, Turns, Rests, Within}
-use Rattle.storage_ways.proofs.Ways.{Trying, PageTo, SlotClears}
+use Rattle.cluster_model.specs.Phases.{is_up}
+use Rattle.storage_ways.proofs.Parts.{Part, with_page_if}
+use Rattle.storage_ways.proofs.Sound.{Sound}
+use Rattle.storage_ways.proofs.Ways.{Trying}
 
 -- Only writes, bitmaps and what stands on the legs change.
 

@@ -1,5 +1,5 @@
 -- The ways of bitmaps: a page is written, and a chunk leaves the set.
-use Rattle.std.proofs.Common.{◌≡◌, ℕ, ◌<◌, ◌≤◌, ◌==◌, ◌&&◌, Bool, true, false, not, Option, Some, None, refl, subst, arith, nat_lt}
+use Rattle.std.proofs.Common.{◌≡◌, ℕ, ◌<◌, ◌≤◌, ◌==◌, Bool, true, false, not, Some, None, refl, subst, arith, nat_lt}
 use Rattle.std.proofs.Math.Nat.{div-mul-le_self}
 use Rattle.resync_worker.proofs.SectorLaws.{lt-chunk_end}
 use Rattle.std.proofs.lemmas.Bool.Decides.{nat_tests}
@@ -16,7 +16,7 @@ use Rattle.cluster_model.specs.State.{Core, sizes}
 use Rattle.cluster_model.specs.Bits.{bit_guards, clear_guards, page_written, page_failed, clear, is_degraded}
 use Rattle.cluster_model.specs.Phases.{is_up}
 use Rattle.laws_sound.proofs.Guarded.{all_none, unless_none, refused_none}
-use Rattle.storage_ways.proofs.Parts.{Part, with_page, with_page_if}
+use Rattle.storage_ways.proofs.Parts.{with_page, with_page_if}
 use Rattle.storage_ways.proofs.Place.{Around, here, Place}
 use Rattle.storage_ways.proofs.Guarding.{acked_by, none_degraded, below_legs}
 use Rattle.storage_ways.proofs.Ways.{Way, PageTo, marks, misses_page, clears}

@@ -1,11 +1,10 @@
 -- What the blocks of the slots' locks tell after a change of locks.
-use Rattle.std.proofs.Common.{◌≡◌, ℕ, ◌<◌, ◌≤◌, ◌==◌, ◌&&◌, ◌||◌, not, Bool, true, false, if◌then◌else◌, List, Option, Some, None, refl, sym, ap, subst, ◌∙◌, arith, nat_lt}
-use Rattle.std.specs.Prelude.{is_none, is_some}
+use Rattle.std.proofs.Common.{◌≡◌, ℕ, ◌<◌, ◌≤◌, ◌==◌, ◌&&◌, not, Bool, true, false, if◌then◌else◌, Option, Some, None, refl, sym, ap, subst, ◌∙◌, arith, nat_lt}
+use Rattle.std.specs.Prelude.{is_none}
 use Rattle.std.proofs.Math.Path.{fun_ext}
 use Rattle.std.proofs.lemmas.Bool.Decides.{nat_tests}
 use Rattle.dlm_modes.specs.Points.{with_at}
 use Rattle.dlm_modes.specs.declared.block.Block.{Block}
-use Rattle.dlm_modes.specs.declared.mode.Mode.{Mode}
 use Rattle.dlm_modes.specs.declared.mode.Mode.TheVariants.{CR, CW, PR, PW, EX}
 use Rattle.mdc_types.specs.declared.numbers.Range.{Range}
 use Rattle.dlm_space.specs.Locks.{Lock, holding, with_value, queued, let_go, all_died, mode_of, is_writer}

@@ -1,5 +1,5 @@
 -- The ways by which a node comes in.
-use Rattle.std.proofs.Common.{◌≡◌, ◌≢◌, inl, inr, ℕ, ◌<◌, ◌≤◌, ◌==◌, ◌&&◌, Bool, true, false, not, if◌then◌else◌, List, [], ◌∷◌, Option, Some, None, refl, sym, ap, subst, ◌∙◌, arith, nat_lt, nat_le}
+use Rattle.std.proofs.Common.{◌≡◌, ◌≢◌, ℕ, ◌<◌, ◌==◌, ◌&&◌, Bool, true, false, not, if◌then◌else◌, Option, Some, None, refl, sym, ap, subst, ◌∙◌, arith, nat_lt}
 use Rattle.std.specs.Prelude.{is_some, unwrap_or}
 use Rattle.std.proofs.lemmas.Bool.{leb-true}
 use Rattle.std.proofs.lemmas.Bool.Decides.{nat_tests}
@@ -8,8 +8,6 @@ use Rattle.dlm_modes.proofs.FirstLaws.{first_such_some}
 use Rattle.dlm_modes.specs.Guards.{first_of}
 use Rattle.dlm_modes.specs.Points.{with_at}
 use Rattle.dlm_modes.specs.declared.mode.Mode.TheVariants.{CR, PW, EX}
-use Rattle.mdc_types.specs.Roles.{role_of, is_written}
-use Rattle.mdc_types.specs.declared.numbers.Range.{Range}
 use Rattle.mdc_types.specs.declared.outcomes.Outcome.{Outcome}
 use Rattle.mdc_types.specs.declared.outcomes.Outcome.TheVariants as outcomes
 use Rattle.mdc_types.specs.declared.refusals.Refusal.TheVariants.{SlotLive, SlotPending, Stale}
@@ -20,9 +18,7 @@ use Rattle.cluster_msgs.specs.Reading.{range_in}
 use Rattle.md_superblock.specs.Arrays.{Says, says_in}
 use Rattle.msg_rounds.specs.Locks.{token_res, ack_res}
 use Rattle.msg_rounds.specs.Phases.{is_idle, has_published}
-use Rattle.msg_rounds.specs.Refusals.{is_token_held}
 use Rattle.msg_rounds.specs.declared.phases.SenderPhase.{SenderPhase}
-use Rattle.msg_rounds.specs.declared.phases.SenderPhase.TheVariants as senders
 use Rattle.cluster_model.specs.State.{Core, Tried, Unread, Loaded}
 use Rattle.cluster_model.specs.After.{with_super, tried_as}
 use Rattle.cluster_model.specs.Changes.{covering, no_new_dev}
@@ -36,13 +32,12 @@ use Rattle.laws_sound.proofs.Views.{newest_found}
 use Rattle.leg_failure.specs.Views.{fresh_targets}
 use Rattle.node_bitmaps.specs.Bitmap.{with_new_legs}
 use Rattle.laws_roles.proofs.FinishRows.{others_none}
-use Rattle.laws_roles.proofs.Parts as roles
 use Rattle.laws_roles.proofs.Parts.{is_loaded, source_of, with_source}
-use Rattle.storage_ways.proofs.Parts.{Part, told_by}
-use Rattle.storage_ways.proofs.Place.{Around, here, roles_here, Place, sound_of}
+use Rattle.storage_ways.proofs.Parts.{told_by, joined_there}
+use Rattle.storage_ways.proofs.Place.{Around, here, Place}
 use Rattle.storage_ways.proofs.Blocks.{retold, told_high, told_kept}
 use Rattle.storage_ways.proofs.GrantRows.{held_is}
-use Rattle.storage_ways.proofs.Ways.{Way, Silent, Joining, Coming, joins, loads, comes}
+use Rattle.storage_ways.proofs.Ways.{Way, Silent, joins, loads, comes}
 
 joining_is : (s : NodeState) → is_joining s ≡ true → s ≡ states.Joining
 joining_is states.Joining e = refl
@@ -99,13 +94,13 @@ module _ (core : Core) (a : Around) (p : Place core a) where
       by false e = in_not_loaded (core.state m) inside e
       by true e = absurd (ne (p.known.rounded.phased.alone m n (p.known.rounded.phased.loaded m (loaded_state (core.state m) e)) has))
 
-  pub join_way : (n : ℕ) → first_of (join_guards core n) ≡ None → Way (here core a) (here (join core n) a)
+  pub join_way : (n : ℕ) → first_of (join_guards core n) ≡ None → Way (here core a) (here (join core n) (record a { broken = joined_there a.broken n }))
   join_way n ok =
       let g = (all_none (join_guards core n) ok).1.1 in
       let free = unless_none (not (core.members.live n)) (SlotLive n) g.0 in
       let out = out_is (core.state n) (core.members.live n) (p.known.rounded.numbered.live n) free in
       let idle = p.known.rounded.phased.out n out in
-      retold (here core a) (join core n) a _
+      retold (here core a) (join core n) (record a { broken = joined_there a.broken n }) _
       (told_high (with_at core.locks n (holding (core.locks n) n PW)) token_res (asked (with_at core.locks n (holding (core.locks n) n PW) token_res) n EX) (omega arith) ∙ told_kept core.locks n (holding (core.locks n) n PW) refl)
       (joins n (record {
         out = out;

@@ -1,13 +1,11 @@
 -- The ways of copying: the lock `resync`, passes, gatherings, and the sectors that are copied.
-use Rattle.std.proofs.Common.{◌≡◌, ◌≢◌, inl, inr, ℕ, ◌<◌, ◌≤◌, ◌/◌, ◌%◌, ◌==◌, ◌&&◌, ◌||◌, Bool, true, false, not, if◌then◌else◌, List, [], ◌∷◌, Option, Some, None, refl, sym, ap, subst, ◌∙◌, arith, nat_lt}
-use Rattle.std.specs.Prelude.{is_some, unwrap_or, option_map}
+use Rattle.std.proofs.Common.{◌≡◌, ℕ, ◌<◌, ◌≤◌, ◌/◌, ◌%◌, ◌==◌, ◌&&◌, ◌||◌, Bool, true, false, not, if◌then◌else◌, Option, Some, None, refl, sym, ap, subst, ◌∙◌, arith, nat_lt}
+use Rattle.std.specs.Prelude.{is_some}
 use Rattle.std.proofs.lemmas.Bool.Decides.{nat_tests}
-use Rattle.dlm_modes.specs.First.{first_such}
-use Rattle.dlm_modes.proofs.FirstLaws.{first_such_some, first_such_none}
+use Rattle.dlm_modes.proofs.FirstLaws.{first_such_some}
 use Rattle.dlm_modes.specs.Guards.{first_of}
-use Rattle.dlm_modes.specs.Points.{with_at}
 use Rattle.mdc_types.specs.Bits.{has_bit}
-use Rattle.mdc_types.specs.Geometry.{Sizes, chunks_of, page_of, pages_of, page_sector}
+use Rattle.mdc_types.specs.Geometry.{Sizes, page_of, pages_of}
 use Rattle.mdc_types.specs.declared.numbers.Range.{Range}
 use Rattle.mdc_types.specs.declared.numbers.Sector.{Sector}
 use Rattle.mdc_types.specs.declared.refusals.Refusal.TheVariants.{NotRead, NotWritten, NothingLeft, NoLeg}
@@ -15,25 +13,23 @@ use Rattle.msg_rounds.specs.Phases.{has_published}
 use Rattle.msg_rounds.specs.Refusals.{is_offered, is_sender_idle}
 use Rattle.msg_rounds.specs.declared.phases.SenderPhase.{SenderPhase}
 use Rattle.msg_rounds.specs.declared.phases.SenderPhase.TheVariants as senders
-use Rattle.leg_failure.specs.Views.{NodeView, works, is_target, working_leg}
-use Rattle.node_bitmaps.specs.Bitmap.{Bitmap}
-use Rattle.node_recovery.specs.Progress.{Recovering}
-use Rattle.resync_worker.specs.Copying.{Passing, filled, copied, settled_at, next_in, missing_target, completes}
+use Rattle.leg_failure.specs.Views.{works, is_target, working_leg}
+use Rattle.resync_worker.specs.Copying.{Passing, copied, next_in, missing_target}
 use Rattle.resync_worker.specs.declared.buffer.Buffer.{Buffer}
-use Rattle.slot_gathering.specs.Gatherings.{Gathering, all_pages, gathered_page, page_to_gather}
+use Rattle.slot_gathering.specs.Gatherings.{Gathering, all_pages, page_to_gather}
 use Rattle.slot_pages.specs.Slot.{page_has}
-use Rattle.cluster_model.specs.State.{Core, Copy, NotAsked, Asked, Held, sizes}
-use Rattle.cluster_model.specs.Changes.{no_copy, headed}
-use Rattle.cluster_model.specs.Copying.{ci_guards, co_guards, settle_guards, next_for, next_sector, filled_with, copied_in, copied_out, buffer_in, buffer_of, buffer_sector, with_pass, settle, settle_buffer, need_met, uncopied_target}
+use Rattle.cluster_model.specs.State.{Core, Held, sizes}
+use Rattle.cluster_model.specs.Changes.{headed}
+use Rattle.cluster_model.specs.Copying.{ci_guards, co_guards, settle_guards, next_for, next_sector, filled_with, copied_in, copied_out, buffer_in, buffer_of, buffer_sector, with_pass, settle, settle_buffer, uncopied_target}
 use Rattle.cluster_model.specs.Gathering.{is_again, is_again_of, due_page, leg_to_gather, gather_guards, page_gathered, gather}
 use Rattle.cluster_model.specs.Passes.{resync_guards, pass_guards, pass_again_guards, done_guards, ask_resync, pass_own, pass_full, pass_again, end_pass, open_window}
-use Rattle.cluster_model.specs.Phases.{is_in, is_up, is_unclean, offers, copy_word}
+use Rattle.cluster_model.specs.Phases.{is_in, is_up, is_unclean, offers}
 use Rattle.laws_sound.proofs.Guarded.{all_none, unless_none, refused_none, found_none}
-use Rattle.storage_ways.proofs.Parts.{Part, with_data, with_data_if, decided_values}
+use Rattle.storage_ways.proofs.Parts.{with_data, with_data_if, decided_values, decided_there, settled_there}
 use Rattle.storage_ways.proofs.Place.{Around, here, Place}
 use Rattle.storage_ways.proofs.Blocks.{retold, told_high}
-use Rattle.storage_ways.proofs.Guarding.{Found, found_some, acked_by, all_targets, below_legs, not_asked, lock_alone, in_window, InWindow, with_buffer, WithBuffer, has_turn, none_open}
-use Rattle.storage_ways.proofs.Ways.{Way, Acked, Passes, PassesAgain, Gathers, Fills, Buffers, Copies, Settles, EndsPass, turns, passes_own, passes_full, passes_again, gathers, fills, copies, misses_copy, settles, ends_pass}
+use Rattle.storage_ways.proofs.Guarding.{found_some, acked_by, all_targets, below_legs, not_asked, lock_alone, in_window, InWindow, with_buffer, WithBuffer, has_turn, none_open}
+use Rattle.storage_ways.proofs.Ways.{Way, Acked, Passes, Buffers, Copies, Settles, turns, passes_own, passes_full, passes_again, gathers, fills, copies, misses_copy, settles, ends_pass}
 
 idle_is : (s : SenderPhase) → is_sender_idle s ≡ true → s ≡ senders.Idle
 idle_is senders.Idle e = refl
@@ -291,7 +287,7 @@ module _ (core : Core) (a : Around) (p : Place core a) where
       let done : missing_target (is_target (core.view n)) b.buffer ≡ None = subst (λ x. uncopied_target core n x ≡ None) b.of (refused_none NotWritten (uncopied_target core n (buffer_of core n)) g.1.1.1.0) in
       record { it = b; settles = record { buffers = b.buffers; done = all_targets core a p n (has_bit b.buffer.done) done } }
 
-  pub settle_way : (n : ℕ) (s : Settled n) → Way (here core a) (here (settle core n) (record a { values = decided_values a.values s.it.buffer.sector s.it.buffer.value }))
+  pub settle_way : (n : ℕ) (s : Settled n) → Way (here core a) (here (settle core n) (record a { values = decided_values a.values s.it.buffer.sector s.it.buffer.value; broken = decided_there a.broken s.it.buffer.sector; since = settled_there a.since s.it.buffer.sector }))
   settle_way n s =
-      subst (λ x. Way (here core a) (here (settle_buffer core n x) (record a { values = decided_values a.values s.it.buffer.sector s.it.buffer.value }))) (sym s.it.of)
+      subst (λ x. Way (here core a) (here (settle_buffer core n x) (record a { values = decided_values a.values s.it.buffer.sector s.it.buffer.value; broken = decided_there a.broken s.it.buffer.sector; since = settled_there a.since s.it.buffer.sector }))) (sym s.it.of)
       (settles n s.it.passing s.it.buffer s.settles)

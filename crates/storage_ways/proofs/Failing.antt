@@ -1,7 +1,6 @@
 -- The ways of a transfer that failed: the leg is lost, or it stays as the node's last, and an offer
 -- that doesn't reach its leg is void.
-use Rattle.std.proofs.Common.{◌≡◌, ◌⊎◌, inl, inr, ℕ, ◌==◌, Bool, true, false, if◌then◌else◌, Option, Some, None, refl, sym, ap, subst, ◌∙◌, arith}
-use Rattle.std.proofs.lemmas.Bool.Decides.{nat_tests}
+use Rattle.std.proofs.Common.{◌≡◌, inr, ℕ, Bool, true, false, if◌then◌else◌, Some, refl, sym, ap, subst}
 use Rattle.dlm_modes.specs.Points.{with_at}
 use Rattle.mdc_types.specs.declared.events.Event.{Event}
 use Rattle.mdc_types.specs.declared.outcomes.Outcome.{Outcome}
@@ -15,7 +14,7 @@ use Rattle.cluster_model.specs.State.{Core}
 use Rattle.cluster_model.specs.After.{after, after_loss, after_miss}
 use Rattle.cluster_model.specs.Changes.{voided}
 use Rattle.cluster_model.specs.Failures.{tried, lost_or_io, leg_lost, request_failed}
-use Rattle.cluster_model.specs.Phases.{is_in, is_up}
+use Rattle.cluster_model.specs.Phases.{is_in}
 use Rattle.cluster_model.specs.Transfers.{Transfer, transfer_of}
 use Rattle.laws_roles.proofs.PassRows.{voided_not}
 use Rattle.storage_ways.proofs.Parts.{Part}
@@ -44,13 +43,18 @@ module _ (core : Core) (a : Around) (s : Sound (here core a)) where
   lose_ways n l inside = lose_by n l (core.sender n) refl inside
 
 -- after the try, the leg is lost or what was asked fails
+pub failed_by : (w : Part) (core : Core) (e : Event) (t : Transfer) (f : Outcome → Around) → transfer_of core e ≡ Some t → Ways w (here (tried core e) (f (outcomes.Lost t.leg))) → Sound (here (tried core e) (f (outcomes.Lost t.leg))) → is_in ((tried core e).state t.node) ≡ true
+    → Way (here (tried core e) (f (outcomes.Lost t.leg))) (here (request_failed (tried core e) e) (f (outcomes.Io t.leg))) → Ways w (here (after core e (lost_or_io core t)) (f (lost_or_io core t)))
+failed_by w core e t f at xs s inside io = by (is_last (core.view t.node) t.leg)
+  where
+    by : (b : Bool) → Ways w (here (after core e (if b then outcomes.Io t.leg else outcomes.Lost t.leg)) (f (if b then outcomes.Io t.leg else outcomes.Lost t.leg)))
+    by true = more xs s io
+    by false = subst (λ x. Ways w (here (after_loss (tried core e) x) (f (outcomes.Lost t.leg)))) (sym at) (append xs (lose_ways (tried core e) (f (outcomes.Lost t.leg)) s t.node t.leg inside))
+
+-- where the entries tell the same of either
 pub failed_ways : (w : Part) (core : Core) (e : Event) (t : Transfer) (a : Around) → transfer_of core e ≡ Some t → Ways w (here (tried core e) a) → Sound (here (tried core e) a) → is_in ((tried core e).state t.node) ≡ true
     → Way (here (tried core e) a) (here (request_failed (tried core e) e) a) → Ways w (here (after core e (lost_or_io core t)) a)
-failed_ways w core e t a at xs s inside io = by (is_last (core.view t.node) t.leg)
-  where
-    by : (b : Bool) → Ways w (here (after core e (if b then outcomes.Io t.leg else outcomes.Lost t.leg)) a)
-    by true = more xs s io
-    by false = subst (λ x. Ways w (here (after_loss (tried core e) x) a)) (sym at) (append xs (lose_ways (tried core e) a s t.node t.leg inside))
+failed_ways w core e t a at xs s inside io = failed_by w core e t (λ o. a) at xs s inside io
 
 -- a superblock that doesn't reach its leg
 pub unreached_ways : (core : Core) (e : Event) (t : Transfer) (l : ℕ) (a : Around) → transfer_of core e ≡ Some t → Sound (here core a) → Ways (here core a) (here (after core e (outcomes.Unreached l)) a)

@@ -1,15 +1,11 @@
 -- The ways of a round that is whole.
-use Rattle.std.proofs.Common.{◌≡◌, ◌≢◌, ℕ, ◌<◌, ◌==◌, Bool, true, false, not, if◌then◌else◌, Option, Some, None, refl, sym, ap, subst, ◌∙◌, arith}
+use Rattle.std.proofs.Common.{◌≡◌, ◌≢◌, ℕ, ◌<◌, Bool, true, false, if◌then◌else◌, Some, None, refl, sym, ap, subst, ◌∙◌, arith}
 use Rattle.std.specs.Prelude.{is_some}
-use Rattle.std.proofs.lemmas.Bool.Decides.{nat_tests}
 use Rattle.dlm_modes.specs.Guards.{first_of}
 use Rattle.dlm_modes.specs.Points.{with_at}
-use Rattle.mdc_types.specs.Roles.{role_of, eight}
 use Rattle.mdc_types.specs.declared.events.Wish.{Wish}
 use Rattle.mdc_types.specs.declared.events.Wish.TheVariants as wishes
 use Rattle.mdc_types.specs.declared.roles.NodeState.{NodeState}
-use Rattle.mdc_types.specs.declared.roles.Role.{Role}
-use Rattle.msg_rounds.specs.Locks.{finished}
 use Rattle.msg_rounds.specs.Phases.{is_idle, has_published, has_processed, may_receive}
 use Rattle.msg_rounds.specs.Refusals.{is_granted}
 use Rattle.msg_rounds.specs.declared.phases.ReceiverPhase.{ReceiverPhase}
@@ -17,8 +13,7 @@ use Rattle.msg_rounds.specs.declared.phases.SenderPhase.{SenderPhase}
 use Rattle.msg_rounds.specs.declared.phases.SenderPhase.TheVariants as senders
 use Rattle.disk_addition.specs.declared.addition.Addition.{Addition}
 use Rattle.disk_addition.specs.declared.addition.Addition.TheVariants.{Nothing}
-use Rattle.suspend_ranges.specs.Suspended.{entry_of}
-use Rattle.cluster_model.specs.State.{Core, Offer, NotAsked}
+use Rattle.cluster_model.specs.State.{Core, Offer}
 use Rattle.cluster_model.specs.Finishing.{adding_after, finish_guards, finish, finish_offer, finish_wish, round_over}
 use Rattle.cluster_model.specs.Guards.{is_out}
 use Rattle.cluster_model.specs.Phases.{is_in, is_up, is_metadata, is_unclean, offers as offers_wish}
@@ -28,11 +23,10 @@ use Rattle.laws_locks.specs.Rounded.{has_token, stands}
 use Rattle.laws_sound.proofs.Guarded.{all_none, unless_none, living}
 use Rattle.laws_roles.proofs.FinishRows.{others_none}
 use Rattle.laws_roles.proofs.Known.{state_body, state_role}
-use Rattle.laws_roles.proofs.Parts as roles
 use Rattle.laws_roles.proofs.Parts.{heard_role, is_nothing, needs_known, with_finish, finished_by}
 use Rattle.laws_roles.proofs.RoundRows.{eight_of}
 use Rattle.laws_roles.proofs.Rows.{with_twice}
-use Rattle.storage_ways.proofs.Parts.{Part, is_range}
+use Rattle.storage_ways.proofs.Parts.{is_range}
 use Rattle.storage_ways.proofs.Place.{Around, here, Place, sound_of}
 use Rattle.storage_ways.proofs.Blocks.{retold, told_finished}
 use Rattle.storage_ways.proofs.ComingRows.{alone_by}

@@ -1,5 +1,5 @@
 -- The live writes of the plain history are those in flight, along each run.
-use Rattle.std.proofs.Common.{◌≡◌, ℕ, ◌==◌, ◌&&◌, ◌≤◌, Bool, true, false, if◌then◌else◌, List, [], ◌∷◌, ◌++◌, Option, Some, None, refl, sym, ap, subst, ◌∙◌, arith}
+use Rattle.std.proofs.Common.{◌≡◌, ℕ, ◌==◌, ◌&&◌, Bool, true, false, if◌then◌else◌, List, [], ◌∷◌, ◌++◌, Option, Some, None, refl, sym, ap, subst, ◌∙◌, arith}
 use Rattle.std.proofs.Math.Path.{fun_ext}
 use Rattle.std.proofs.lemmas.Bool.Decides.{nat_tests}
 use Rattle.dlm_modes.specs.Points.{with_at}
@@ -15,12 +15,12 @@ use Rattle.mirror_io.specs.Flight.{write_in, without_write, new_write, start_in,
 use Rattle.mirror_io.proofs.Lookups.{started_option, done_option, write_in-push, write_in-without, write_in-start, write_in-done}
 use Rattle.plain_history.specs.History.{PlainWrite, asked, start, live_step, live_writes}
 use Rattle.cluster_model.specs.State.{State, Core, Legs}
-use Rattle.cluster_model.specs.After.{after, after_loss}
+use Rattle.cluster_model.specs.After.{after}
 use Rattle.cluster_model.specs.Contents.{Opens}
 use Rattle.cluster_model.specs.Failures.{lost_or_io}
 use Rattle.cluster_model.specs.Opening.{Origin}
 use Rattle.cluster_model.specs.Outcomes.{outcome_of}
-use Rattle.cluster_model.specs.Run.{Run, Step, Moves, Quiet, Written, Read, Failed, Left}
+use Rattle.cluster_model.specs.Run.{Run, Moves, Quiet, Written, Read, Failed, Left}
 use Rattle.cluster_model.specs.Transfers.{Transfer, transfer_of}
 use Rattle.cluster_model.specs.Writes.{start_write}
 use Rattle.laws_roles.proofs.Known.{Known, known}

@@ -1,5 +1,5 @@
 -- The ways by which a node goes: it leaves, dies, or gives its round up.
-use Rattle.std.proofs.Common.{◌≡◌, ◌≢◌, inl, inr, ℕ, ◌<◌, ◌≤◌, ◌==◌, ◌&&◌, ◌||◌, Bool, true, false, not, if◌then◌else◌, List, [], ◌∷◌, Option, Some, None, refl, sym, ap, subst, ◌∙◌, arith}
+use Rattle.std.proofs.Common.{◌≡◌, ℕ, ◌<◌, ◌==◌, ◌&&◌, ◌||◌, Bool, true, false, not, if◌then◌else◌, List, [], ◌∷◌, Option, Some, None, refl, sym, ap, subst, ◌∙◌, arith}
 use Rattle.std.specs.Prelude.{is_some}
 use Rattle.std.proofs.lemmas.Bool.Decides.{nat_tests}
 use Rattle.dlm_modes.specs.First.{first_such}
@@ -12,7 +12,6 @@ use Rattle.mdc_types.specs.declared.roles.NodeState.{NodeState}
 use Rattle.mdc_types.specs.declared.roles.NodeState.TheVariants as states
 use Rattle.msg_rounds.specs.Locks.{quitted}
 use Rattle.msg_rounds.specs.Phases.{is_idle, has_published, may_quit}
-use Rattle.msg_rounds.specs.Refusals.{is_offered}
 use Rattle.msg_rounds.specs.declared.phases.SenderPhase.{SenderPhase}
 use Rattle.msg_rounds.specs.declared.phases.SenderPhase.TheVariants as senders
 use Rattle.mirror_io.specs.Flight.{write_from}
@@ -21,23 +20,21 @@ use Rattle.node_bitmaps.specs.Bitmap.{first_set}
 use Rattle.node_recovery.specs.Progress.{Recovering}
 use Rattle.resync_worker.specs.Copying.{Passing}
 use Rattle.cluster_model.specs.State.{Core, Copy, NotAsked, Held, Turn, sizes}
-use Rattle.cluster_model.specs.Changes.{no_copy, device_unlocked}
 use Rattle.cluster_model.specs.Guards.{is_out}
 use Rattle.cluster_model.specs.Leaving.{leave_guards, leave, die_guards, die}
-use Rattle.cluster_model.specs.Phases.{is_up, is_in}
+use Rattle.cluster_model.specs.Phases.{is_up}
 use Rattle.cluster_model.specs.Rounds.{quit_guards, quit, quit_from}
 use Rattle.laws_locks.specs.Others.{recovers as recovers_slot, has_slot}
 use Rattle.laws_locks.specs.Rounded.{stands}
-use Rattle.laws_rounds.proofs.Follows.{with_same}
 use Rattle.laws_sound.proofs.Guarded.{all_none, unless_none, refused_none, living}
 use Rattle.laws_roles.proofs.Rows.{with_twice}
-use Rattle.storage_ways.proofs.Parts.{Part, told_by, recovers, has_pass}
+use Rattle.storage_ways.proofs.Parts.{told_by, recovers, has_pass}
 use Rattle.storage_ways.proofs.Place.{Around, here, Place, sound_of}
 use Rattle.storage_ways.proofs.Blocks.{retold, told_died, told_unlocked, told_quitted}
 use Rattle.storage_ways.proofs.Guarding.{not_asked, live_node}
 use Rattle.storage_ways.proofs.GrantRows.{idle_is}
 use Rattle.storage_ways.proofs.ComingRows.{no_offer_of}
-use Rattle.storage_ways.proofs.Ways.{Way, Going, Leaving, Quitting, Dying, leaves, quits, dies, voids}
+use Rattle.storage_ways.proofs.Ways.{Way, leaves, quits, dies, voids}
 
 pub no_write : (ws : List LiveWrite) → write_from 0 ws ≡ None → ws ≡ []
 no_write [] e = refl

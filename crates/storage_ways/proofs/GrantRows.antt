@@ -1,5 +1,5 @@
 -- The ways of grants, and of a sender's first asks.
-use Rattle.std.proofs.Common.{◌≡◌, ◌≢◌, inl, inr, ℕ, ◌<◌, ◌≤◌, ◌==◌, ◌&&◌, Bool, true, false, not, if◌then◌else◌, List, [], ◌∷◌, Option, Some, None, refl, sym, ap, subst, ◌∙◌, arith}
+use Rattle.std.proofs.Common.{◌≡◌, ◌≢◌, inl, inr, ℕ, ◌<◌, ◌==◌, ◌&&◌, Bool, true, false, not, List, [], ◌∷◌, Option, Some, None, refl, sym, ap, subst, ◌∙◌, arith}
 use Rattle.std.proofs.lemmas.Bool.Decides.{nat_tests}
 use Rattle.dlm_modes.proofs.FirstLaws.{first_such_none}
 use Rattle.dlm_modes.specs.Guards.{first_of}
@@ -7,12 +7,11 @@ use Rattle.dlm_modes.specs.Points.{with_at}
 use Rattle.dlm_modes.specs.declared.mode.Mode.{Mode}
 use Rattle.dlm_modes.specs.declared.mode.Mode.TheVariants.{PR, EX}
 use Rattle.mdc_types.specs.Resources.{number_of}
-use Rattle.mdc_types.specs.declared.refusals.Refusal.{Refusal}
 use Rattle.mdc_types.specs.declared.refusals.Refusal.TheVariants.{NotGrantable}
 use Rattle.mdc_types.specs.declared.resources.Res.{Res}
 use Rattle.mdc_types.specs.declared.resources.Res.TheVariants as resources
 use Rattle.mdc_types.specs.declared.roles.NodeState.{NodeState}
-use Rattle.dlm_space.specs.Locks.{Lock, granted, blocker, is_against, mode_of, disagrees}
+use Rattle.dlm_space.specs.Locks.{granted, blocker, is_against, mode_of, disagrees}
 use Rattle.dlm_space.specs.Queues.{asks_of}
 use Rattle.dlm_space.specs.declared.ask.Ask.{Ask}
 use Rattle.msg_rounds.specs.Locks.{token_res, message_res, ack_res}
@@ -20,10 +19,9 @@ use Rattle.msg_rounds.specs.Phases.{has_published, has_processed}
 use Rattle.msg_rounds.specs.Refusals.{is_sender_idle, is_token_held, is_offered}
 use Rattle.msg_rounds.specs.declared.phases.SenderPhase.{SenderPhase}
 use Rattle.msg_rounds.specs.declared.phases.SenderPhase.TheVariants as senders
-use Rattle.msg_rounds.specs.declared.phases.ReceiverPhase.TheVariants as receivers
 use Rattle.cluster_model.specs.State.{Core, Turn, NotAsked, Asked, Held}
 use Rattle.cluster_model.specs.Changes.{resync_res}
-use Rattle.cluster_model.specs.Granting.{asker, message_held, grant_to, goes_on as core_goes_on, not_grantable, grant_guards}
+use Rattle.cluster_model.specs.Granting.{asker, message_held, grant_to, not_grantable, grant_guards}
 use Rattle.cluster_model.specs.Guards.{is_out}
 use Rattle.cluster_model.specs.Phases.{is_up}
 use Rattle.cluster_model.specs.Rounds.{token_guards, message_guards, ask_token, ask_message}
@@ -31,7 +29,6 @@ use Rattle.laws_locks.specs.Others.{turn_held, turn_request}
 use Rattle.laws_locks.specs.Rounded.{has_token}
 use Rattle.laws_sound.proofs.Guarded.{all_none, unless_none, refused_none}
 use Rattle.laws_sound.proofs.RoundFacts.{head_asks}
-use Rattle.storage_ways.proofs.Parts.{Part}
 use Rattle.storage_ways.proofs.Place.{Around, here, Place}
 use Rattle.storage_ways.proofs.Blocks.{retold, told_high}
 use Rattle.storage_ways.proofs.Guarding.{live_node}

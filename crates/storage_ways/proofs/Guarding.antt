@@ -1,27 +1,26 @@
 -- What the guards of several rows tell.
-use Rattle.std.proofs.Common.{◌≡◌, inl, inr, ℕ, ◌<◌, ◌≤◌, ◌+◌, ◌==◌, ◌&&◌, ◌||◌, Bool, true, false, not, Option, Some, None, refl, sym, ap, subst, ◌∙◌, arith, nat_lt}
+use Rattle.std.proofs.Common.{◌≡◌, inl, inr, ℕ, ◌<◌, ◌&&◌, ◌||◌, Bool, true, false, not, Option, Some, None, refl, arith, nat_lt}
 use Rattle.std.specs.Prelude.{is_some}
 use Rattle.std.proofs.lemmas.Bool.{cases_lt}
 use Rattle.std.proofs.lemmas.Bool.Decides.{nat_tests}
 use Rattle.dlm_modes.specs.First.{first_such}
 use Rattle.dlm_modes.proofs.FirstLaws.{first_such_none}
-use Rattle.mdc_types.specs.Geometry.{nodes_of, chunks_of}
+use Rattle.mdc_types.specs.Geometry.{nodes_of}
 use Rattle.mdc_types.specs.Roles.{is_working, is_written, is_faulty, is_rebuilding}
 use Rattle.mdc_types.specs.declared.numbers.Range.{Range}
 use Rattle.mdc_types.specs.declared.refusals.Refusal.TheVariants.{Unacked}
 use Rattle.mdc_types.specs.declared.roles.Role.{Role}
 use Rattle.mdc_types.specs.declared.roles.Role.TheVariants.{Spare}
-use Rattle.leg_failure.specs.Views.{NodeView, works, is_target, is_unacked, unacked_leg, working_leg}
+use Rattle.leg_failure.specs.Views.{works, is_target, unacked_leg}
 use Rattle.node_recovery.specs.Progress.{Recovering}
 use Rattle.resync_worker.specs.Copying.{Passing}
 use Rattle.resync_worker.specs.declared.buffer.Buffer.{Buffer}
-use Rattle.cluster_model.specs.State.{Core, Copy, Turn, NotAsked, Asked, Held, sizes}
+use Rattle.cluster_model.specs.State.{Core, Turn, NotAsked, Asked, Held, sizes}
 use Rattle.cluster_model.specs.Bits.{is_degraded}
 use Rattle.cluster_model.specs.Guards.{unacked, is_out}
-use Rattle.cluster_model.specs.Phases.{is_up, is_none, is_held, is_window, is_buffer, is_open, has_lock, has_pass as has_pass_word, turn_word, pass_word, buffer_word, window_word, copy_word, recovery_word}
+use Rattle.cluster_model.specs.Phases.{is_up, is_none, is_held, is_window, is_buffer, is_open, has_lock, has_pass as has_pass_word, turn_word, buffer_word, recovery_word}
 use Rattle.laws_sound.proofs.Guarded.{refused_none}
 use Rattle.laws_roles.proofs.WishGuards.{all_known}
-use Rattle.storage_ways.proofs.Parts.{Part, has_pass}
 use Rattle.storage_ways.proofs.Place.{Around, here, Place}
 use Rattle.storage_ways.proofs.Ways.{Acked}
 

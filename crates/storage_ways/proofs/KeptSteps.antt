@@ -1,12 +1,10 @@
 -- A pass is under a held turn, and pending slots are those of nodes: what each way keeps.
-use Rattle.std.proofs.Common.{◌≡◌, ℕ, ◌<◌, ◌==◌, Bool, true, false, if◌then◌else◌, Option, Some, None, refl, sym, ap, subst, ◌∙◌, arith}
+use Rattle.std.proofs.Common.{◌≡◌, ℕ, ◌<◌, Bool, true, false, Option, Some, None, refl}
 use Rattle.std.specs.Prelude.{is_some, option_map}
-use Rattle.std.proofs.lemmas.Bool.Decides.{nat_tests}
 use Rattle.dlm_modes.specs.Points.{with_at}
-use Rattle.leg_failure.specs.Views.{NodeView}
-use Rattle.resync_worker.specs.Copying.{Passing, restarted, filled, copied, settled_at}
-use Rattle.cluster_model.specs.State.{Copy, Turn, NotAsked, Asked, Held}
-use Rattle.cluster_model.specs.Changes.{no_copy, covering, window_closed}
+use Rattle.resync_worker.specs.Copying.{Passing, restarted}
+use Rattle.cluster_model.specs.State.{Copy, Turn, NotAsked, Held}
+use Rattle.cluster_model.specs.Changes.{no_copy, window_closed}
 use Rattle.laws_sound.proofs.Points.{at_one}
 use Rattle.storage_ways.proofs.Parts.{Part, has_pass}
 use Rattle.storage_ways.proofs.Sound.{Sound}

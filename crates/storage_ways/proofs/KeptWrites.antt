@@ -1,5 +1,5 @@
 -- Which events change what is in flight: the others leave the writes alone.
-use Rattle.std.proofs.Common.{◌≡◌, ℕ, Bool, true, false, if◌then◌else◌, not, ◌&&◌, List, Option, Some, None, refl, ap, ◌∙◌, arith}
+use Rattle.std.proofs.Common.{◌≡◌, ℕ, Bool, true, false, if◌then◌else◌, not, ◌&&◌, Option, Some, None, refl, ◌∙◌}
 use Rattle.mdc_types.specs.declared.events.Event.{Event}
 use Rattle.mdc_types.specs.declared.events.Event.TheVariants as events
 use Rattle.mdc_types.specs.declared.events.Wish.{Wish}
@@ -20,7 +20,6 @@ use Rattle.cluster_msgs.specs.declared.msg.Body.{Body}
 use Rattle.cluster_msgs.specs.declared.msg.Body.TheVariants as bodies
 use Rattle.msg_rounds.specs.declared.phases.SenderPhase.{SenderPhase}
 use Rattle.msg_rounds.specs.declared.phases.SenderPhase.TheVariants as senders
-use Rattle.mirror_io.specs.declared.live.LiveWrite.{LiveWrite}
 use Rattle.node_recovery.specs.Progress.{Recovering}
 use Rattle.resync_worker.specs.declared.buffer.Buffer.{Buffer}
 use Rattle.cluster_model.specs.State.{Core, Offer}

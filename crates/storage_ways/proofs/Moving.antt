@@ -1,6 +1,5 @@
 -- What the moves are of an event, and what stands on the legs after them.
-use Rattle.std.proofs.Common.{◌≡◌, ◌⊎◌, inl, inr, ℕ, ◌+◌, ◌<◌, ◌≤◌, ◌==◌, ◌&&◌, Bool, true, false, if◌then◌else◌, List, Option, Some, None, refl, sym, ap, subst, ◌∙◌, arith}
-use Rattle.mdc_types.specs.Geometry.{page_of, page_sector, nodes_of, data_offset}
+use Rattle.std.proofs.Common.{◌≡◌, ℕ, ◌+◌, Bool, true, false, if◌then◌else◌, List, Option, Some, None, refl, sym, ap, subst, ◌∙◌}
 use Rattle.mdc_types.specs.declared.events.Event.{Event}
 use Rattle.mdc_types.specs.declared.events.Event.TheVariants as events
 use Rattle.mdc_types.specs.declared.numbers.Sector.{Sector}
@@ -10,7 +9,6 @@ use Rattle.md_superblock.specs.Arrays.{Says}
 use Rattle.dlm_space.specs.declared.ask.Ask.{Ask}
 use Rattle.plain_history.specs.History.{PlainWrite, values_step}
 use Rattle.resync_worker.specs.declared.buffer.Buffer.{Buffer}
-use Rattle.slot_pages.specs.Slot.{page_has, chunk_bit}
 use Rattle.cluster_model.specs.State.{State, Core, Legs, sizes}
 use Rattle.cluster_model.specs.After.{after, done}
 use Rattle.cluster_model.specs.Copying.{buffer_of, settled_with}
@@ -19,29 +17,43 @@ use Rattle.cluster_model.specs.Granting.{asker}
 use Rattle.cluster_model.specs.Outcomes.{outcome_of, outcome_read, granted_to}
 use Rattle.cluster_model.specs.Phases.{is_metadata}
 use Rattle.cluster_model.specs.Run.{Moves, Quiet, Written, Read, Failed, Left, Gives, put}
-use Rattle.cluster_model.specs.Stored.{bit_on, data_on}
+use Rattle.cluster_model.specs.Stored.{data_on}
 use Rattle.cluster_model.specs.Transfers.{Transfer, transfer_of}
 use Rattle.laws_roles.proofs.OtherRows.{is_failed}
 use Rattle.laws_roles.proofs.Parts as roles
 use Rattle.laws_roles.proofs.Parts.{supers, ghost_after}
+use Rattle.storage_ways.specs.Since.{since_step}
+use Rattle.storage_ways.specs.Broken.{broken_step}
 use Rattle.storage_ways.proofs.Flying.{flying}
 use Rattle.storage_ways.proofs.Parts.{Part, bits_on}
 use Rattle.storage_ways.proofs.Place.{Around, here}
 use Rattle.storage_ways.proofs.Ways.{Ways}
 
+-- what the entries tell: the values of sectors, where writes were broken, and what was settled since
+pub record Traced : Type 0 where
+  pub values : ℕ → List Sector
+  pub broken : ℕ → ℕ → Bool
+  pub since : ℕ → ℕ → Bool
+
 -- what stands on these legs
-abbrev pub around : Core → Legs → roles.Ghost → (ℕ → List Sector) → Around
-around core legs g values = record {
+abbrev pub around : Core → Legs → roles.Ghost → Traced → Around
+around core legs g t = record {
   super = supers core.array legs;
   bit = bits_on (sizes core) legs;
   stored = data_on (sizes core) legs;
   ghost = g;
-  values = values;
+  values = t.values;
+  broken = t.broken;
+  since = t.since;
 }
 
+-- what the entries tell, after one more
+abbrev pub traced : Event → Outcome → (ℕ → ℕ → Option PlainWrite) → Traced → Traced
+traced e o writes t = record { values = values_step e o writes t.values; broken = broken_step e o writes t.broken; since = since_step e o t.since }
+
 -- and after an event
-abbrev pub next : State → roles.Ghost → (ℕ → List Sector) → Event → Outcome → Legs → Around
-next old g values e o new = around old.core new (ghost_after old.core e g) (values_step e o (flying old.core.writes) values)
+abbrev pub next : State → roles.Ghost → Traced → Event → Outcome → Legs → Around
+next old g t e o new = around old.core new (ghost_after old.core e g) (traced e o (flying old.core.writes) t)
 
 -- Moves of an event that transfers nothing, that reads, and that writes.
 
@@ -119,16 +131,16 @@ done_when core e o f = refl
 
 -- From what an outcome and legs are to what they are equal to.
 
-pub moved : (old : State) (g : roles.Ghost) (values : ℕ → List Sector) (e : Event) (w : Part) (o was : Outcome) (new legs : Legs) → o ≡ was → new ≡ legs
-    → Ways w (here (after old.core e was) (next old g values e was legs)) → Ways w (here (after old.core e o) (next old g values e o new))
-moved old g values e w o was new legs is same xs =
-    subst (λ x. Ways w (here (after old.core e x) (next old g values e x new))) (sym is)
-    (subst (λ x. Ways w (here (after old.core e was) (next old g values e was x))) (sym same) xs)
+pub moved : (old : State) (g : roles.Ghost) (t : Traced) (e : Event) (w : Part) (o was : Outcome) (new legs : Legs) → o ≡ was → new ≡ legs
+    → Ways w (here (after old.core e was) (next old g t e was legs)) → Ways w (here (after old.core e o) (next old g t e o new))
+moved old g t e w o was new legs is same xs =
+    subst (λ x. Ways w (here (after old.core e x) (next old g t e x new))) (sym is)
+    (subst (λ x. Ways w (here (after old.core e was) (next old g t e was x))) (sym same) xs)
 
 -- what stands there is what is equal to it
-pub standing_so : (w : Part) (core : Core) (s t : ℕ → Option Says) (b c : ℕ → ℕ → ℕ → Bool) (d f : ℕ → ℕ → Sector) (g : roles.Ghost) (values : ℕ → List Sector) → s ≡ t → b ≡ c → d ≡ f
-    → Ways w (here core (record { super = t; bit = c; stored = f; ghost = g; values = values })) → Ways w (here core (record { super = s; bit = b; stored = d; ghost = g; values = values }))
-standing_so w core s t b c d f g values e h i xs =
-    subst (λ x. Ways w (here core (record { super = x; bit = b; stored = d; ghost = g; values = values }))) (sym e)
-    (subst (λ x. Ways w (here core (record { super = t; bit = x; stored = d; ghost = g; values = values }))) (sym h)
-    (subst (λ x. Ways w (here core (record { super = t; bit = c; stored = x; ghost = g; values = values }))) (sym i) xs))
+pub standing_so : (w : Part) (core : Core) (s t : ℕ → Option Says) (b c : ℕ → ℕ → ℕ → Bool) (d f : ℕ → ℕ → Sector) (g : roles.Ghost) (tr : Traced) → s ≡ t → b ≡ c → d ≡ f
+    → Ways w (here core (record { super = t; bit = c; stored = f; ghost = g; values = tr.values; broken = tr.broken; since = tr.since })) → Ways w (here core (record { super = s; bit = b; stored = d; ghost = g; values = tr.values; broken = tr.broken; since = tr.since }))
+standing_so w core s t b c d f g tr e h i xs =
+    subst (λ x. Ways w (here core (record { super = x; bit = b; stored = d; ghost = g; values = tr.values; broken = tr.broken; since = tr.since }))) (sym e)
+    (subst (λ x. Ways w (here core (record { super = t; bit = x; stored = d; ghost = g; values = tr.values; broken = tr.broken; since = tr.since }))) (sym h)
+    (subst (λ x. Ways w (here core (record { super = t; bit = c; stored = x; ghost = g; values = tr.values; broken = tr.broken; since = tr.since }))) (sym i) xs))

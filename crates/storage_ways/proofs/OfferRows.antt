@@ -1,13 +1,12 @@
 -- The ways of offers.
-use Rattle.std.proofs.Common.{◌≡◌, ◌≢◌, inl, inr, ℕ, ◌<◌, ◌≤◌, ◌+◌, ◌==◌, ◌&&◌, ◌||◌, Bool, true, false, not, if◌then◌else◌, List, [], ◌∷◌, Option, Some, None, refl, sym, ap, subst, ◌∙◌, arith}
+use Rattle.std.proofs.Common.{◌≡◌, inl, inr, ℕ, ◌==◌, ◌&&◌, ◌||◌, Bool, true, false, not, Option, Some, None, refl, ap, subst, arith}
 use Rattle.std.specs.Prelude.{is_some, is_none}
 use Rattle.std.proofs.lemmas.Bool.{cases_lt}
 use Rattle.std.proofs.lemmas.Bool.Decides.{nat_tests}
-use Rattle.dlm_modes.specs.First.{first_such}
 use Rattle.dlm_modes.proofs.FirstLaws.{first_such_none}
 use Rattle.dlm_modes.specs.Guards.{first_of}
 use Rattle.mdc_types.specs.Geometry.{Sizes, chunks_of}
-use Rattle.mdc_types.specs.Roles.{is_working, is_faulty, is_rebuilding}
+use Rattle.mdc_types.specs.Roles.{is_working, is_faulty}
 use Rattle.mdc_types.specs.declared.events.Wish.{Wish}
 use Rattle.mdc_types.specs.declared.events.Wish.TheVariants as wishes
 use Rattle.mdc_types.specs.declared.numbers.Range.{Range}
@@ -18,21 +17,19 @@ use Rattle.mdc_types.specs.declared.roles.NodeState.{NodeState}
 use Rattle.mdc_types.specs.declared.roles.NodeState.TheVariants as states
 use Rattle.msg_rounds.specs.Phases.{is_idle, has_published, may_receive}
 use Rattle.node_member.specs.Members.{first_pending}
-use Rattle.leg_failure.specs.Sets.{given_up}
 use Rattle.leg_failure.specs.Views.{NodeView, works, proposed_role}
 use Rattle.resync_worker.specs.Copying.{Passing, first_todo}
-use Rattle.cluster_model.specs.State.{Core, Copy, NotAsked, Held, sizes}
+use Rattle.cluster_model.specs.State.{Core, NotAsked, sizes}
 use Rattle.cluster_model.specs.Phases.{is_in, is_up, is_metadata, is_unclean}
 use Rattle.cluster_model.specs.Wishes.{loaded_offers, wish_guards, offer_guards, is_window, other_faulty, has_copied, with_change, offer_of, offered}
 use Rattle.laws_locks.specs.Rounded.{has_token}
 use Rattle.laws_sound.proofs.Guarded.{all_none, unless_none, refused_none}
 use Rattle.laws_roles.proofs.OfferRows.{stays_working}
-use Rattle.laws_roles.proofs.Parts as roles
-use Rattle.laws_roles.proofs.Parts.{promotes, needs_known, with_wish, covered_by}
+use Rattle.laws_roles.proofs.Parts.{promotes, with_wish, covered_by}
 use Rattle.laws_roles.proofs.WishGuards.{Guards, guards, inside, no_offers, wish_known}
-use Rattle.storage_ways.proofs.Parts.{Part, is_range, has_pass, covers}
+use Rattle.storage_ways.proofs.Parts.{is_range, has_pass}
 use Rattle.storage_ways.proofs.Place.{Around, here, Place}
-use Rattle.storage_ways.proofs.Guarding.{not_asked, under_pass, UnderPass}
+use Rattle.storage_ways.proofs.Guarding.{not_asked, under_pass}
 use Rattle.storage_ways.proofs.ComingRows.{silent_by}
 use Rattle.storage_ways.proofs.Ways.{Way, Offering, offers}
 

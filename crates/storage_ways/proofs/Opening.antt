@@ -1,15 +1,13 @@
 -- The part at the opening, by a header or by images.
-use Rattle.std.proofs.Common.{◌≡◌, ◌⊎◌, inl, inr, ℕ, ◌+◌, ◌-◌, ◌*◌, ◌/◌, ◌%◌, ◌<◌, ◌≤◌, ◌==◌, ◌&&◌, Bool, true, false, not, if◌then◌else◌, List, [], ◌∷◌, Option, Some, None, replicate, refl, sym, ap, subst, ◌∙◌, arith, nat_lt, nat_le}
-use Rattle.std.proofs.Math.Path.{fun_ext}
+use Rattle.std.proofs.Common.{◌≡◌, inl, inr, ℕ, ◌+◌, ◌-◌, ◌*◌, ◌/◌, ◌%◌, ◌<◌, ◌≤◌, ◌==◌, ◌&&◌, Bool, true, false, if◌then◌else◌, [], ◌∷◌, Some, None, replicate, refl, sym, ap, subst, ◌∙◌, arith, nat_lt, nat_le}
 use Rattle.std.proofs.lemmas.Bool.Decides.{nat_tests}
 use Rattle.std.proofs.lemmas.List.{get_or-replicate}
 use Rattle.std.proofs.lemmas.Nat.Bits.{bit_at-zero}
 use Rattle.dlm_modes.specs.declared.mode.Mode.TheVariants.{CR}
 use Rattle.mdc_types.specs.Bits.{has_bit}
-use Rattle.mdc_types.specs.Geometry.{Sizes, IsGeometry, chunks_of, nodes_of, page_of, page_sector, slot_pages, data_offset, length_of}
+use Rattle.mdc_types.specs.Geometry.{chunks_of, nodes_of, page_of, page_sector, slot_pages, data_offset}
 use Rattle.mdc_types.specs.Roles.{role_of}
 use Rattle.mdc_types.specs.Sectors.{zero_sector}
-use Rattle.mdc_types.specs.declared.numbers.Range.{Range}
 use Rattle.mdc_types.specs.declared.numbers.Sector.{Sector}
 use Rattle.mdc_types.specs.declared.roles.NodeState.TheVariants as states
 use Rattle.cluster_msgs.specs.Ranges.{IsRange, spelled_range}
@@ -20,25 +18,24 @@ use Rattle.msg_rounds.specs.Locks.{ack_res}
 use Rattle.msg_rounds.specs.Phases.{new_receiving}
 use Rattle.msg_rounds.specs.declared.phases.SenderPhase.TheVariants as senders
 use Rattle.leg_failure.specs.Views.{new_view}
-use Rattle.plain_history.specs.History.{values_at, candidates}
+use Rattle.plain_history.specs.History.{values_at}
 use Rattle.md_superblock.specs.Arrays.{super_for, spelled}
 use Rattle.slot_pages.specs.Slot.{page_has, spelled_page, chunk_bit}
 use Rattle.slot_pages.proofs.Spelled.{has_the_set}
 use Rattle.cluster_model.specs.State.{State, Legs, Untried}
 use Rattle.cluster_model.specs.Changes.{no_view, no_copy, not_adding, no_new_dev}
-use Rattle.cluster_model.specs.Contents.{Opens, IsHeader, IsImages, HasImages, header_sector, slot_sector, AllTell}
+use Rattle.cluster_model.specs.Contents.{Opens, IsHeader, IsImages, header_sector, slot_sector, AllTell}
 use Rattle.cluster_model.specs.Joining.{told_range}
-use Rattle.cluster_model.specs.Opening.{Origin, IsOrigin, array_of, says_of, is_member, of_member, opening_set, bitmap_at, locks_at, held_by_members, bitmap_lock, core_at}
+use Rattle.cluster_model.specs.Opening.{Origin, IsOrigin, array_of, says_of, is_member, of_member, opening_set, bitmap_at, locks_at, held_by_members, bitmap_lock}
 use Rattle.cluster_model.specs.Stored.{bit_on, data_on}
 use Rattle.laws_roles.specs.Laws.{Tells}
 use Rattle.laws_roles.proofs.Opening as role_opening
 use Rattle.laws_roles.proofs.Opening.{opening_begins}
-use Rattle.laws_roles.proofs.Parts as roles
 use Rattle.laws_roles.proofs.Parts.{ghost_at}
 use Rattle.storage_ways.proofs.Blocks.{told_in, told_at}
 use Rattle.storage_ways.proofs.Parts.{Part, bits_on, told_by}
 use Rattle.storage_ways.proofs.Place.{here}
-use Rattle.storage_ways.proofs.Runs.{At, around_on, around_at, home}
+use Rattle.storage_ways.proofs.Runs.{At, around_at}
 use Rattle.storage_ways.proofs.Standing.{page_before, page_there}
 
 -- what the part has at the opening
@@ -66,6 +63,8 @@ pub record Begins (o : Origin) (legs : Legs) (w : Part) : Type 0 where
   pub bit : w.bit ≡ bits_on o.sizes legs
   pub stored : w.stored ≡ data_on o.sizes legs
   pub values : w.values ≡ values_at o.base
+  pub broken : (n s : ℕ) → w.broken n s ≡ false
+  pub since : (n s : ℕ) → w.since n s ≡ false
   -- superblocks, and the ghosts of roles by the leg with the newest
   pub super : role_opening.Begins o w.super
   pub ghost : w.ghost ≡ ghost_at o super.home
@@ -256,6 +255,8 @@ module _ (o : Origin) (start : State) (opens : Opens o start) (tells : Tells o s
         bit = refl;
         stored = refl;
         values = refl;
+        broken = λ n s. refl;
+        since = λ n s. refl;
         super = opening_begins o start opens tells;
         ghost = refl;
         mark_bit = marked;

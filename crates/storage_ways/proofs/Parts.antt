@@ -1,8 +1,6 @@
 -- What writes, marks, copying and recovery go by: what nodes keep of them, their views and rounds,
 -- and what stands on the legs.
-use Rattle.std.specs.Prelude.{ℕ, ◌≤◌, ◌+◌, ◌==◌, Bool, true, false, not, ◌&&◌, ◌||◌, nat_lt, if◌then◌else◌, Option, Some, None, is_some, List, [], ◌∷◌, ◌++◌, unwrap_or}
-use Rattle.std.specs.Prelude.{◌≡◌}
-use Rattle.dlm_modes.specs.Points.{with_at}
+use Rattle.std.specs.Prelude.{ℕ, ◌≤◌, ◌==◌, Bool, true, false, not, ◌&&◌, nat_lt, if◌then◌else◌, Option, Some, None, is_some, List, [], ◌∷◌, ◌++◌, unwrap_or}
 use Rattle.mdc_types.specs.Geometry.{Sizes, chunk_of, nodes_of, page_of}
 use Rattle.mdc_types.specs.declared.events.Wish.{Wish}
 use Rattle.mdc_types.specs.declared.events.Wish.TheVariants as wishes
@@ -21,12 +19,12 @@ use Rattle.node_bitmaps.specs.Bitmap.{Bitmap}
 use Rattle.node_recovery.specs.Progress.{Recovering}
 use Rattle.resync_worker.specs.Copying.{Passing}
 use Rattle.resync_worker.specs.declared.buffer.Buffer.{Buffer}
-use Rattle.suspend_ranges.specs.Suspended.{entry_of, suspends}
+use Rattle.suspend_ranges.specs.Suspended.{entry_of}
 use Rattle.dlm_space.specs.Locks.{Lock}
-use Rattle.cluster_model.specs.State.{Core, Legs, Offer, Tried, Adding, Copy, sizes}
+use Rattle.cluster_model.specs.State.{Core, Legs, Offer, Tried, Adding, Copy}
 use Rattle.cluster_model.specs.Joining.{told_range}
 use Rattle.cluster_model.specs.Phases.{offers}
-use Rattle.cluster_model.specs.Stored.{bit_on, data_on}
+use Rattle.cluster_model.specs.Stored.{bit_on}
 use Rattle.laws_roles.proofs.Parts as roles
 
 pub record Part : Type 0 where
@@ -62,6 +60,11 @@ pub record Part : Type 0 where
   pub ghost : roles.Ghost
   -- by sector: the values that a read may give, by the plain history
   pub values : ℕ → List Sector
+  -- by node and sector: a started write of the node there was broken, nothing was decided there since,
+  -- and the node hasn't joined anew
+  pub broken : ℕ → ℕ → Bool
+  -- by node and sector: the sector was settled since the node began to recover last
+  pub since : ℕ → ℕ → Bool
 
 abbrev pub told_by : (ℕ → Lock) → ℕ → Option Range
 told_by locks m =
@@ -71,8 +74,8 @@ told_by locks m =
 abbrev pub bits_on : Sizes → Legs → ℕ → ℕ → ℕ → Bool
 bits_on g legs k c l = nat_lt k (nodes_of g) && bit_on g legs k c l
 
-abbrev pub part_of : Core → (ℕ → Option Says) → (ℕ → ℕ → ℕ → Bool) → (ℕ → ℕ → Sector) → roles.Ghost → (ℕ → List Sector) → Part
-part_of core super bit stored ghost values = record {
+abbrev pub part_of : Core → (ℕ → Option Says) → (ℕ → ℕ → ℕ → Bool) → (ℕ → ℕ → Sector) → roles.Ghost → (ℕ → List Sector) → (ℕ → ℕ → Bool) → (ℕ → ℕ → Bool) → Part
+part_of core super bit stored ghost values broken since = record {
   geometry = core.array.sizes;
   state = core.state;
   view = core.view;
@@ -98,6 +101,8 @@ part_of core super bit stored ghost values = record {
   stored = stored;
   ghost = ghost;
   values = values;
+  broken = broken;
+  since = since;
 }
 
 -- of this part, what says who may be read
@@ -242,3 +247,20 @@ tried_values values x s = if (x.sector == s) && not x.started then values s ++ x
 
 abbrev pub decided_values : (ℕ → List Sector) → ℕ → Sector → ℕ → List Sector
 decided_values values t v s = if t == s then v ∷ [] else values s
+
+-- where writes were broken: one more, one decided, and a node that joins
+abbrev pub broken_there : (ℕ → ℕ → Bool) → ℕ → LiveWrite → ℕ → ℕ → Bool
+broken_there broken n x m s = if x.started && (m == n) && (x.sector == s) then true else broken m s
+
+abbrev pub decided_there : (ℕ → ℕ → Bool) → ℕ → ℕ → ℕ → Bool
+decided_there broken t m s = if t == s then false else broken m s
+
+abbrev pub joined_there : (ℕ → ℕ → Bool) → ℕ → ℕ → ℕ → Bool
+joined_there broken n m s = if m == n then false else broken m s
+
+-- what was settled since: one more, and a recovery that begins
+abbrev pub settled_there : (ℕ → ℕ → Bool) → ℕ → ℕ → ℕ → Bool
+settled_there since t m s = if s == t then true else since m s
+
+abbrev pub begun_there : (ℕ → ℕ → Bool) → ℕ → ℕ → ℕ → Bool
+begun_there since n m s = if m == n then false else since m s

@@ -1,8 +1,7 @@
 -- A place of a run: what is known of the core there, and what follows for its part.
-use Rattle.std.proofs.Common.{◌≡◌, ◌≢◌, inl, inr, ℕ, ◌<◌, ◌≤◌, ◌==◌, List, Bool, true, false, not, Option, Some, None, refl, sym, ap, subst, ◌∙◌, arith}
+use Rattle.std.proofs.Common.{◌≡◌, ◌≢◌, ℕ, ◌<◌, ◌==◌, List, Bool, true, false, Option, Some, None, refl, sym, ap, subst, ◌∙◌, arith}
 use Rattle.std.specs.Prelude.{is_some, is_none as is_no, unwrap_or, if◌then◌else◌}
 use Rattle.std.proofs.lemmas.Bool.Decides.{nat_tests}
-use Rattle.dlm_modes.specs.First.{first_such}
 use Rattle.dlm_modes.proofs.FirstLaws.{first_such_some}
 use Rattle.dlm_modes.specs.declared.mode.Mode.{Mode}
 use Rattle.dlm_modes.specs.declared.mode.Mode.TheVariants.{EX}
@@ -17,13 +16,11 @@ use Rattle.msg_rounds.specs.Phases.{is_idle, has_published, may_receive}
 use Rattle.msg_rounds.specs.declared.phases.SenderPhase.{SenderPhase}
 use Rattle.leg_failure.specs.Views.{NodeView, works, working_leg}
 use Rattle.node_recovery.specs.Progress.{Recovering}
-use Rattle.cluster_model.specs.State.{Core, Offer, Turn, NotAsked, Held, sizes}
-use Rattle.cluster_model.specs.Guards.{is_out}
-use Rattle.cluster_model.specs.Phases.{is_in, is_up, is_metadata, offers}
+use Rattle.cluster_model.specs.State.{Core, Offer, Held, sizes}
+use Rattle.cluster_model.specs.Phases.{is_up, is_metadata, offers}
 use Rattle.laws_locks.specs.Others.{OtherLocks, recovers as recovers_slot, turn_held}
-use Rattle.laws_locks.specs.Rounded.{has_token, stands, wish_fits, offer_fits, offering}
-use Rattle.laws_sound.proofs.RoundFacts.{standing, has_stood}
-use Rattle.laws_roles.proofs.FinishRows.{others_none}
+use Rattle.laws_locks.specs.Rounded.{stands, wish_fits, offer_fits, offering}
+use Rattle.laws_sound.proofs.RoundFacts.{standing}
 use Rattle.laws_roles.proofs.Parts as roles
 use Rattle.laws_roles.proofs.Parts.{is_loaded}
 use Rattle.laws_roles.proofs.Numbers.{Numbers}
@@ -31,7 +28,7 @@ use Rattle.laws_roles.proofs.Roles.{Roles}
 use Rattle.laws_roles.proofs.Additions.{Additions}
 use Rattle.laws_roles.proofs.Sources.{Sources}
 use Rattle.laws_roles.proofs.Known.{Known}
-use Rattle.storage_ways.proofs.Parts.{Part, part_of, read_leg, has_pass}
+use Rattle.storage_ways.proofs.Parts.{Part, part_of, has_pass}
 use Rattle.storage_ways.proofs.Sound.{Sound, Phases, Turns, Rests, Within}
 
 -- what stands on the legs beside the core, the ghosts of roles, and the values by the plain history
@@ -41,9 +38,11 @@ pub record Around : Type 0 where
   pub stored : ℕ → ℕ → Sector
   pub ghost : roles.Ghost
   pub values : ℕ → List Sector
+  pub broken : ℕ → ℕ → Bool
+  pub since : ℕ → ℕ → Bool
 
 abbrev pub here : Core → Around → Part
-here core a = part_of core a.super a.bit a.stored a.ghost a.values
+here core a = part_of core a.super a.bit a.stored a.ghost a.values a.broken a.since
 
 -- what roles keep of the same
 abbrev pub roles_here : Core → Around → roles.Part

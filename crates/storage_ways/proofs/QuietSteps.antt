@@ -1,8 +1,7 @@
 -- The way of each event that transfers nothing.
-use Rattle.std.proofs.Common.{◌≡◌, ℕ, Bool, true, false, List, Option, Some, None, refl, sym, ap, subst, arith}
+use Rattle.std.proofs.Common.{◌≡◌, ℕ, Bool, true, false, Option, Some, None, refl, sym, ap, subst, arith}
 use Rattle.mdc_types.specs.declared.events.Event.{Event}
 use Rattle.mdc_types.specs.declared.events.Event.TheVariants as events
-use Rattle.mdc_types.specs.declared.numbers.Sector.{Sector}
 use Rattle.mdc_types.specs.declared.outcomes.Outcome.{Outcome}
 use Rattle.mdc_types.specs.declared.outcomes.Outcome.TheVariants as outcomes
 use Rattle.mirror_io.specs.Flight.{write_in}
@@ -16,22 +15,24 @@ use Rattle.cluster_model.specs.Outcomes.{outcome_of}
 use Rattle.cluster_model.specs.Run.{Moves}
 use Rattle.cluster_model.specs.Table.{refusal}
 use Rattle.cluster_model.specs.Transfers.{transfer_of}
-use Rattle.cluster_model.specs.Writes.{end_write}
+use Rattle.cluster_model.specs.Writes.{end_write, break_write}
 use Rattle.laws_roles.proofs.Parts as roles
+use Rattle.storage_ways.specs.Since.{since_step}
+use Rattle.storage_ways.specs.Broken.{broken_by, decided_by, broken_step}
 use Rattle.storage_ways.proofs.Flying.{flying, plain_of}
-use Rattle.storage_ways.proofs.Parts.{Part, decided_values}
+use Rattle.storage_ways.proofs.Parts.{decided_values, decided_there, settled_there}
 use Rattle.storage_ways.proofs.Place.{Around, here, Place, sound_of}
-use Rattle.storage_ways.proofs.Moving.{around, next, quiet_of, quiet_well, done_when, moved}
+use Rattle.storage_ways.proofs.Moving.{Traced, around, next, quiet_of, quiet_well, done_when, moved}
 use Rattle.storage_ways.proofs.BitmapRows.{clear_way}
 use Rattle.storage_ways.proofs.ComingRows.{join_way, up_way}
-use Rattle.storage_ways.proofs.CopyRows.{resync_way, end_pass_way, own_way, full_way, again_way, settle_way, settled, Settled}
+use Rattle.storage_ways.proofs.CopyRows.{resync_way, end_pass_way, own_way, full_way, again_way, settle_way, settled}
 use Rattle.storage_ways.proofs.FinishRows.{finish_way}
 use Rattle.storage_ways.proofs.GoingRows.{leave_way, die_way, quit_way}
 use Rattle.storage_ways.proofs.GrantRows.{granted_way, token_way, message_asked_way}
 use Rattle.storage_ways.proofs.OfferRows.{offer_way}
 use Rattle.storage_ways.proofs.ReceivingRows.{process_way, resume_way, drop_way}
 use Rattle.storage_ways.proofs.RecoveryRows.{recover_way, recovered_way}
-use Rattle.storage_ways.proofs.RequestRows.{ask_way, end_way, ended, Ended, break_way}
+use Rattle.storage_ways.proofs.RequestRows.{ask_way, end_way, ended, Broken, broken, break_way}
 use Rattle.storage_ways.proofs.RoundRows.{publish_way, take_way}
 use Rattle.storage_ways.proofs.Blocks.{retold, told_high}
 use Rattle.storage_ways.proofs.Ways.{Way, Ways, one, still}
@@ -63,18 +64,21 @@ no_transfer core (events.SlotIn n p l) q = cc
 no_transfer core (events.SlotOut n p l) q = cc
 no_transfer core e q = refl
 
-module _ (old : State) (g : roles.Ghost) (vs : ℕ → List Sector) (p : Place old.core (around old.core old.legs g vs)) where
+module _ (old : State) (g : roles.Ghost) (vs : Traced) (p : Place old.core (around old.core old.legs g vs)) where
   abbrev pub A : Around
   A = around old.core old.legs g vs
 
   abbrev Done : Event → Type 0
   Done e = Way (here old.core A) (here (done old.core e (outcome_of old.core e)) (next old g vs e (outcome_of old.core e) old.legs))
 
-  ended_values : (n k : ℕ) (x : LiveWrite) → write_in k (old.core.writes n) ≡ Some x → Way (here old.core A) (here (end_write old.core n k) (record A { values = decided_values vs x.sector x.value })) → Done (events.EndWrite n k)
-  ended_values n k x found w = subst (λ (y : Option PlainWrite). Way (here old.core A) (here (end_write old.core n k) (record A { values = λ s. with_end y s (vs s) }))) (sym (ap plain_of found)) w
+  ended_values : (n k : ℕ) (x : LiveWrite) → write_in k (old.core.writes n) ≡ Some x → Way (here old.core A) (here (end_write old.core n k) (record A { values = decided_values vs.values x.sector x.value; broken = decided_there vs.broken x.sector })) → Done (events.EndWrite n k)
+  ended_values n k x found w = subst (λ (y : Option PlainWrite). Way (here old.core A) (here (end_write old.core n k) (record A { values = λ s. with_end y s (vs.values s); broken = λ m s. decided_by y vs.broken m s }))) (sym (ap plain_of found)) w
 
-  settled_values : (n : ℕ) (b : Buffer) → buffer_of old.core n ≡ Some b → Way (here old.core A) (here (settle old.core n) (record A { values = decided_values vs b.sector b.value })) → Done (events.Settle n)
-  settled_values n b is w = subst (λ y. Way (here old.core A) (here (settle old.core n) (record A { values = values_step (events.Settle n) (settled_with y) (flying old.core.writes) vs }))) (sym is) w
+  settled_values : (n : ℕ) (b : Buffer) → buffer_of old.core n ≡ Some b → Way (here old.core A) (here (settle old.core n) (record A { values = decided_values vs.values b.sector b.value; broken = decided_there vs.broken b.sector; since = settled_there vs.since b.sector })) → Done (events.Settle n)
+  settled_values n b is w = subst (λ y. Way (here old.core A) (here (settle old.core n) (record A { values = values_step (events.Settle n) (settled_with y) (flying old.core.writes) vs.values; broken = broken_step (events.Settle n) (settled_with y) (flying old.core.writes) vs.broken; since = since_step (events.Settle n) (settled_with y) vs.since }))) (sym is) w
+
+  broken_values : (n k : ℕ) (b : Broken old.core n k) → Done (events.BreakWrite n k)
+  broken_values n k b = subst (λ (y : Option PlainWrite). Way (here old.core A) (here (break_write old.core n k) (record A { broken = λ m s. broken_by n y vs.broken m s }))) (sym (ap plain_of b.found)) (break_way old.core A n k b)
 
   done_way : (e : Event) → has_transfer e ≡ false → refusal old.core e ≡ None → Done e
   done_way (events.Cut n l) q ok = still
@@ -100,7 +104,7 @@ module _ (old : State) (g : roles.Ghost) (vs : ℕ → List Sector) (p : Place o
   done_way (events.WritePage n c l) q ok = cc
   done_way (events.Out n k l) q ok = cc
   done_way (events.EndWrite n k) q ok = let e = ended old.core A p n k ok in ended_values n k e.write e.finishing.ending.write (end_way old.core A p n k e)
-  done_way (events.BreakWrite n k) q ok = break_way old.core A p n k ok
+  done_way (events.BreakWrite n k) q ok = broken_values n k (broken old.core A p n k ok)
   done_way (events.AskRead n s) q ok = still
   done_way (events.In n k) q ok = cc
   done_way (events.Clear n c) q ok = clear_way old.core A p n c ok

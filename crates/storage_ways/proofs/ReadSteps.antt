@@ -1,7 +1,6 @@
 -- The ways of each event that reads a sector.
-use Rattle.std.proofs.Common.{◌≡◌, inl, inr, ℕ, ◌+◌, ◌*◌, ◌/◌, ◌%◌, ◌<◌, ◌≤◌, ◌==◌, ◌&&◌, Bool, true, false, List, Option, Some, None, refl, sym, ap, subst, ◌∙◌, arith}
-use Rattle.std.specs.Prelude.{option_map}
-use Rattle.mdc_types.specs.Geometry.{page_of, page_sector, pages_of, nodes_of}
+use Rattle.std.proofs.Common.{◌≡◌, ℕ, ◌*◌, ◌/◌, ◌%◌, ◌<◌, true, false, Option, Some, None, refl, sym, ap, subst, ◌∙◌, arith}
+use Rattle.mdc_types.specs.Geometry.{page_sector, pages_of, nodes_of}
 use Rattle.mdc_types.specs.declared.events.Event.{Event}
 use Rattle.mdc_types.specs.declared.events.Event.TheVariants as events
 use Rattle.mdc_types.specs.declared.numbers.Sector.{Sector}
@@ -10,32 +9,28 @@ use Rattle.mdc_types.specs.declared.outcomes.Outcome.TheVariants as outcomes
 use Rattle.md_superblock.specs.Arrays.{Says, says_in}
 use Rattle.mirror_io.specs.Flight.{read_in}
 use Rattle.mirror_io.specs.declared.live.LiveRead.{LiveRead}
-use Rattle.node_recovery.specs.Progress.{Recovering}
 use Rattle.slot_pages.specs.Slot.{page_has}
-use Rattle.slot_gathering.specs.Gatherings.{all_pages}
 use Rattle.cluster_model.specs.State.{State, Core, Legs, sizes, place_of}
 use Rattle.cluster_model.specs.After.{after, done}
 use Rattle.cluster_model.specs.Changes.{headed}
 use Rattle.cluster_model.specs.Failures.{lost_or_io}
 use Rattle.cluster_model.specs.Outcomes.{load_outcome}
 use Rattle.cluster_model.specs.Phases.{is_in, is_up}
-use Rattle.cluster_model.specs.Reads.{in_guards, end_read, read_sector, read_leg}
+use Rattle.cluster_model.specs.Reads.{end_read, read_sector, read_leg}
 use Rattle.cluster_model.specs.Run.{Moves, Quiet, Written, Read, Failed, Left}
 use Rattle.cluster_model.specs.Table.{refusal}
 use Rattle.cluster_model.specs.Transfers.{Transfer, transfer_of, reads_from, reads_at, in_transfer, gather_transfer, copy_in_transfer, slot_in_transfer}
-use Rattle.laws_sound.proofs.Guarded.{all_none, unless_none}
 use Rattle.laws_roles.proofs.OtherRows.{is_failed}
 use Rattle.laws_roles.proofs.Parts as roles
-use Rattle.storage_ways.proofs.Parts.{Part}
 use Rattle.storage_ways.proofs.Place.{Around, here, Place, sound_of}
-use Rattle.storage_ways.proofs.Moving.{around, next, Reads, reads, fails, reads_of, done_when, moved}
+use Rattle.storage_ways.proofs.Moving.{Traced, around, next, Reads, reads, fails, reads_of, done_when, moved}
 use Rattle.storage_ways.proofs.Standing.{page_stands}
 use Rattle.storage_ways.proofs.ComingRows.{load_way}
 use Rattle.storage_ways.proofs.CopyRows.{PageDue, page_due, gather_way, SectorDue, sector_due, fill_way}
 use Rattle.storage_ways.proofs.RecoveryRows.{PageRead, page_read, slot_in_way}
 use Rattle.storage_ways.proofs.Failing.{failed_ways}
 use Rattle.storage_ways.proofs.Guarding.{works_leg}
-use Rattle.storage_ways.proofs.Ways.{Way, Ways, one, none, still}
+use Rattle.storage_ways.proofs.Ways.{Ways, one, none, still}
 
 load_well : (l : ℕ) (v : Sector) (x : Option Says) → is_failed (load_outcome l v x) ≡ false
 load_well l v None = refl
@@ -56,7 +51,7 @@ some_not_none t v e f = cc
 slot_below : (n all nodes pages : ℕ) → n < nodes * pages → n / pages < nodes
 slot_below n all nodes pages lt = grind arith
 
-module _ (old : State) (g : roles.Ghost) (vs : ℕ → List Sector) (p : Place old.core (around old.core old.legs g vs)) (told : (j : ℕ) → j < (sizes old.core).legs → old.legs.told j ≡ true) where
+module _ (old : State) (g : roles.Ghost) (vs : Traced) (p : Place old.core (around old.core old.legs g vs)) (told : (j : ℕ) → j < (sizes old.core).legs → old.legs.told j ≡ true) where
   abbrev pub A : Around
   A = around old.core old.legs g vs
 

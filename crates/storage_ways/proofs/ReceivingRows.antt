@@ -1,11 +1,8 @@
 -- The ways of a receiver: a message is processed, its round resumed or dropped.
-use Rattle.std.proofs.Common.{◌≡◌, ◌≢◌, inl, inr, ℕ, ◌<◌, ◌≤◌, ◌==◌, ◌&&◌, ◌||◌, Bool, true, false, not, if◌then◌else◌, List, [], ◌∷◌, Option, Some, None, refl, sym, ap, subst, ◌∙◌, arith}
-use Rattle.std.specs.Prelude.{is_some}
+use Rattle.std.proofs.Common.{◌≡◌, ℕ, ◌&&◌, Bool, true, false, not, if◌then◌else◌, ◌∷◌, Option, Some, None, refl, sym, ap, subst, ◌∙◌, arith}
 use Rattle.dlm_modes.specs.Guards.{first_of, unless}
 use Rattle.dlm_modes.specs.Points.{with_at}
-use Rattle.mdc_types.specs.Roles.{role_of, eight}
-use Rattle.mdc_types.specs.declared.events.Wish.{Wish}
-use Rattle.mdc_types.specs.declared.events.Wish.TheVariants as wishes
+use Rattle.mdc_types.specs.Roles.{role_of}
 use Rattle.mdc_types.specs.declared.numbers.Range.{Range}
 use Rattle.mdc_types.specs.declared.refusals.Refusal.TheVariants.{Draining, SenderGone, SenderLive, NotGranted}
 use Rattle.mdc_types.specs.declared.resources.Res.TheVariants as resources
@@ -24,24 +21,23 @@ use Rattle.msg_rounds.specs.declared.phases.ReceiverPhase.{ReceiverPhase}
 use Rattle.msg_rounds.specs.declared.phases.ReceiverPhase.TheVariants as receivers
 use Rattle.mirror_io.specs.Flight.{write_within}
 use Rattle.leg_failure.specs.Views.{acknowledged}
-use Rattle.cluster_model.specs.State.{Core, Offer, sizes}
+use Rattle.cluster_model.specs.State.{Core, Offer}
 use Rattle.cluster_model.specs.Changes.{no_new_dev}
-use Rattle.cluster_model.specs.Phases.{is_in, is_up, is_metadata, receiver_is}
+use Rattle.cluster_model.specs.Phases.{is_up, is_metadata, receiver_is}
 use Rattle.cluster_model.specs.Processing.{processed_guards, processed, do_message, do_body, draining_by, device_lock_kept, see_device}
 use Rattle.cluster_model.specs.Publishing.{body_of, message_of}
 use Rattle.cluster_model.specs.Receiving.{resume_guards, resume, receiver_idle, receiver_now, told_state, is_state_body, drop_guards, drop_message}
-use Rattle.laws_locks.specs.Rounded.{has_token, stands}
+use Rattle.laws_locks.specs.Rounded.{has_token}
 use Rattle.laws_sound.proofs.Guarded.{all_none, first_none, unless_none, refused_none, living}
 use Rattle.laws_sound.proofs.RoundFacts.{no_offer, published_stands, is_taken_now, busy_receives, receives_silent}
 use Rattle.laws_roles.proofs.Known.{state_body, state_role}
-use Rattle.laws_roles.proofs.Parts as roles
 use Rattle.laws_roles.proofs.Parts.{body_role}
 use Rattle.laws_roles.proofs.RoundRows.{eight_of}
-use Rattle.storage_ways.proofs.Parts.{Part, is_range, told_by}
-use Rattle.storage_ways.proofs.Place.{Around, here, Place, published_sends}
+use Rattle.storage_ways.proofs.Parts.{told_by}
+use Rattle.storage_ways.proofs.Place.{Around, here, Place}
 use Rattle.storage_ways.proofs.Blocks.{retold, told_high, told_device, told_processed, told_resumed}
 use Rattle.storage_ways.proofs.RoundRows.{its_offer, none_within, only_one, is_ranging, ranging_body, range_wish}
-use Rattle.storage_ways.proofs.Ways.{Way, Silent, Hearing, Resting, NoneWithin, hears_roles, hears_range, hears, resumes, rests}
+use Rattle.storage_ways.proofs.Ways.{Way, Silent, Hearing, Resting, hears_roles, hears_range, hears, resumes, rests}
 
 resumes_busy : (r : ReceiverPhase) → may_resume r ≡ true → is_idle r ≡ false
 resumes_busy r e = grind arith

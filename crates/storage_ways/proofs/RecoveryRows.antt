@@ -1,31 +1,29 @@
 -- The ways of recoveries: a slot's recovery begins, reads its pages, clears them, and ends.
-use Rattle.std.proofs.Common.{◌≡◌, inl, inr, ℕ, ◌<◌, ◌≤◌, ◌==◌, ◌&&◌, ◌||◌, Bool, true, false, not, if◌then◌else◌, Option, Some, None, refl, sym, ap, subst, ◌∙◌, arith, nat_lt}
+use Rattle.std.proofs.Common.{◌≡◌, ℕ, ◌<◌, ◌==◌, ◌&&◌, Bool, true, false, not, Option, Some, None, refl, sym, subst, arith, nat_lt}
 use Rattle.std.specs.Prelude.{is_some}
 use Rattle.std.proofs.lemmas.Bool.Decides.{nat_tests}
 use Rattle.dlm_modes.specs.First.{first_such}
 use Rattle.dlm_modes.proofs.FirstLaws.{first_such_none}
 use Rattle.dlm_modes.specs.Guards.{first_of}
-use Rattle.dlm_modes.specs.Points.{with_at}
 use Rattle.mdc_types.specs.Geometry.{chunks_of, nodes_of, page_of, pages_of}
-use Rattle.mdc_types.specs.Pages.{leg_left}
 use Rattle.mdc_types.proofs.PageLaws.{leg_left-none}
 use Rattle.mdc_types.specs.declared.numbers.Sector.{Sector}
 use Rattle.mdc_types.specs.declared.refusals.Refusal.TheVariants.{NoLeg, NoPage, NotPending, NotRead, BitMissing, NotWritten, Needed, NotWorking, HeirPending}
 use Rattle.leg_failure.specs.Views.{works, is_target}
-use Rattle.node_bitmaps.specs.Bitmap.{Bitmap, lacks_mark, is_unmarked, unmarked_target_of, written, failed, found_page}
+use Rattle.node_bitmaps.specs.Bitmap.{lacks_mark, is_unmarked, unmarked_target_of}
 use Rattle.node_member.specs.Members.{Members}
-use Rattle.node_recovery.specs.Progress.{Recovering, unread_leg, uncleared_leg, first_found_needed, with_read, with_found, with_cleared}
+use Rattle.node_recovery.specs.Progress.{Recovering, unread_leg, uncleared_leg, first_found_needed}
 use Rattle.slot_pages.specs.Slot.{page_has}
-use Rattle.cluster_model.specs.State.{Core, Held, sizes}
+use Rattle.cluster_model.specs.State.{Core, sizes}
 use Rattle.cluster_model.specs.Failures.{slot_failed}
 use Rattle.cluster_model.specs.Phases.{is_up}
 use Rattle.cluster_model.specs.Recovering.{rec_guards, recover, pending_heir, slotin_guards, slot_read, page_found, slotout_guards, slot_cleared, page_cleared, leg_unread, leg_unmarked, recovered_guards, recovered, slot_recovered, leg_uncleared, chunk_needed}
 use Rattle.laws_sound.proofs.Guarded.{all_none, unless_none, refused_none}
-use Rattle.storage_ways.proofs.Parts.{Part, with_page, with_page_if}
+use Rattle.storage_ways.proofs.Parts.{with_page, with_page_if, begun_there}
 use Rattle.storage_ways.proofs.Place.{Around, here, Place, sound_of}
 use Rattle.storage_ways.proofs.Blocks.{retold, told_kept}
-use Rattle.storage_ways.proofs.Guarding.{acked_by, target_leg, working_at, below_legs, lock_alone, none_open, one_open, OpenOne, both_nots}
-use Rattle.storage_ways.proofs.Ways.{Way, Open, AllRead, SlotReads, SlotClears, EndsRecovery, recovers_slot, slot_reads, slot_clears, misses_slot, ends_recovery}
+use Rattle.storage_ways.proofs.Guarding.{acked_by, target_leg, working_at, below_legs, lock_alone, none_open, one_open, both_nots}
+use Rattle.storage_ways.proofs.Ways.{Way, Open, SlotClears, recovers_slot, slot_reads, slot_clears, misses_slot, ends_recovery}
 
 heir_recovered : (m : Members) (x : Option ℕ) → pending_heir m x ≡ None → (h : ℕ) → x ≡ Some h → m.pending h ≡ false
 heir_recovered m None e h is = cc
@@ -51,12 +49,12 @@ other_node s n ne = by (s == n) refl
     by true e = let same : s ≡ n = grind (arith, nat_tests) in absurd (ne same)
 
 module _ (core : Core) (a : Around) (p : Place core a) where
-  pub recover_way : (n d : ℕ) → first_of (rec_guards core n d) ≡ None → Way (here core a) (here (recover core n d) a)
+  pub recover_way : (n d : ℕ) → first_of (rec_guards core n d) ≡ None → Way (here core a) (here (recover core n d) (record a { since = begun_there a.since n }))
   recover_way n d ok =
       let g = (all_none (rec_guards core n d) ok).1.1.1 in
       let c = core.copy n in
       let alone = lock_alone c.turn c.pass c.window (unless_none _ _ g.1.0) in
-      retold (here core a) (recover core n d) a _ (told_kept core.locks d _ refl)
+      retold (here core a) (recover core n d) (record a { since = begun_there a.since n }) _ (told_kept core.locks d _ refl)
       (recovers_slot n d (record {
         up = unless_none (is_up (core.state n)) _ g.0;
         turn = alone.turn;

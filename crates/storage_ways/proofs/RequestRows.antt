@@ -1,33 +1,30 @@
 -- The ways of requests: writes are asked, tried, ended and broken.
-use Rattle.std.proofs.Common.{◌≡◌, inl, inr, ℕ, ◌<◌, ◌≤◌, ◌+◌, ◌==◌, ◌&&◌, ◌||◌, Bool, true, false, not, if◌then◌else◌, List, [], ◌∷◌, ◌++◌, Option, Some, None, refl, sym, ap, subst, ◌∙◌, arith, nat_lt}
-use Rattle.std.specs.Prelude.{is_some}
+use Rattle.std.proofs.Common.{◌≡◌, inl, inr, ℕ, ◌<◌, ◌≤◌, ◌+◌, ◌==◌, ◌||◌, Bool, true, false, not, if◌then◌else◌, List, [], ◌∷◌, ◌++◌, Option, Some, None, refl, sym, ap, subst, ◌∙◌, arith, nat_lt}
 use Rattle.std.proofs.lemmas.Bool.{cases_lt}
 use Rattle.std.proofs.lemmas.Bool.Decides.{nat_tests}
 use Rattle.dlm_modes.proofs.FirstLaws.{first_such_none}
 use Rattle.dlm_modes.specs.Guards.{first_of}
 use Rattle.dlm_modes.specs.Points.{with_at}
 use Rattle.mdc_types.specs.Geometry.{chunk_of, nodes_of}
-use Rattle.mdc_types.specs.Pages.{leg_without}
 use Rattle.mdc_types.specs.declared.numbers.Sector.{Sector}
 use Rattle.mdc_types.specs.declared.refusals.Refusal.TheVariants.{Suspended, InFlight, NoWrite, NotWritten, BitMissing, NoSector, NoLeg}
 use Rattle.mdc_types.specs.declared.roles.NodeState.{NodeState}
 use Rattle.leg_failure.specs.Views.{is_target}
-use Rattle.mirror_io.specs.Flight.{write_in, is_done, new_write, started, done_on, start_in, done_in, without_write, missing_leg, WritesRise}
+use Rattle.mirror_io.specs.Flight.{write_in, is_done, new_write, started, done_on, start_in, done_in, missing_leg, WritesRise}
 use Rattle.mirror_io.specs.declared.live.LiveWrite.{LiveWrite}
 use Rattle.mirror_io.proofs.Lookups.{started_option, done_option, write_in-push, write_in-without, write_in-start, write_in-done}
-use Rattle.node_bitmaps.specs.Bitmap.{unmarked_target}
 use Rattle.suspend_ranges.specs.Suspended.{covering, suspends}
 use Rattle.cluster_model.specs.State.{Core, sizes}
 use Rattle.cluster_model.specs.Changes.{headed}
-use Rattle.cluster_model.specs.Guards.{is_out, refused_by}
+use Rattle.cluster_model.specs.Guards.{is_out}
 use Rattle.cluster_model.specs.Phases.{is_up}
 use Rattle.cluster_model.specs.Writes.{w_guards, out_guards, ok_guards, break_guards, ask_write, start_write, out_done, end_write, break_write, write_ended, bitmap_ended, write_sector, writer_of, any_of_sector, unmarked_leg, unwritten_target}
 use Rattle.laws_sound.proofs.Guarded.{all_none, unless_none, refused_none, found_none}
 use Rattle.laws_sound.proofs.RoundFacts.{here as same_point}
-use Rattle.storage_ways.proofs.Parts.{Part, with_data, with_data_if, tried_values, decided_values}
+use Rattle.storage_ways.proofs.Parts.{with_data, with_data_if, tried_values, decided_values, broken_there, decided_there}
 use Rattle.storage_ways.proofs.Place.{Around, here, Place}
-use Rattle.storage_ways.proofs.Guarding.{Found, found_some, acked_by, all_targets, target_leg, below_legs, both_nots}
-use Rattle.storage_ways.proofs.Ways.{Way, Acked, Finds, Asking, Trying, Ending, Finishing, asks, outs, misses, ends, breaks}
+use Rattle.storage_ways.proofs.Guarding.{found_some, acked_by, all_targets, below_legs}
+use Rattle.storage_ways.proofs.Ways.{Way, Finds, Asking, Trying, Finishing, asks, outs, misses, ends, breaks}
 
 -- Writes in flight.
 
@@ -185,19 +182,28 @@ module _ (core : Core) (a : Around) (p : Place core a) where
         };
       }
 
-  pub end_way : (n k : ℕ) (e : Ended n k) → Way (here core a) (here (end_write core n k) (record a { values = decided_values a.values e.write.sector e.write.value }))
+  pub end_way : (n k : ℕ) (e : Ended n k) → Way (here core a) (here (end_write core n k) (record a { values = decided_values a.values e.write.sector e.write.value; broken = decided_there a.broken e.write.sector }))
   end_way n k e =
-      subst (λ y. Way (here core a) (record (here (end_write core n k) (record a { values = decided_values a.values e.write.sector e.write.value })) { bitmap = with_at core.bitmap n (bitmap_ended core n y false) })) (sym e.finishing.ending.write)
+      subst (λ y. Way (here core a) (record (here (end_write core n k) (record a { values = decided_values a.values e.write.sector e.write.value; broken = decided_there a.broken e.write.sector })) { bitmap = with_at core.bitmap n (bitmap_ended core n y false) })) (sym e.finishing.ending.write)
       (ends n k e.write e.finishing)
 
 -- a write that isn't ended is broken
-pub broken_from : (core : Core) (a : Around) (n k : ℕ) (x : LiveWrite) → is_up (core.state n) ≡ true → write_in k (core.writes n) ≡ Some x → x.sector < (sizes core).room → Way (here core a) (here (write_ended core n k true) a)
+pub broken_from : (core : Core) (a : Around) (n k : ℕ) (x : LiveWrite) → is_up (core.state n) ≡ true → write_in k (core.writes n) ≡ Some x → x.sector < (sizes core).room → Way (here core a) (here (write_ended core n k true) (record a { broken = broken_there a.broken n x }))
 broken_from core a n k x up found lt =
-    subst (λ y. Way (here core a) (record (here (write_ended core n k true) a) { bitmap = with_at core.bitmap n (bitmap_ended core n y true) })) (sym found)
+    subst (λ y. Way (here core a) (record (here (write_ended core n k true) (record a { broken = broken_there a.broken n x })) { bitmap = with_at core.bitmap n (bitmap_ended core n y true) })) (sym found)
     (breaks n k x (record { up = up; write = found; sector = lt; finds = λ j. write_in-without j k (core.writes n) }))
 
-pub break_way : (core : Core) (a : Around) (p : Place core a) (n k : ℕ) → first_of (break_guards core n k) ≡ None → Way (here core a) (here (break_write core n k) a)
-break_way core a p n k ok =
+pub record Broken (core : Core) (n k : ℕ) : Type 0 where
+  pub write : LiveWrite
+  pub up : is_up (core.state n) ≡ true
+  pub found : write_in k (core.writes n) ≡ Some write
+  pub sector : write.sector < (sizes core).room
+
+pub broken : (core : Core) (a : Around) (p : Place core a) (n k : ℕ) → first_of (break_guards core n k) ≡ None → Broken core n k
+broken core a p n k ok =
     let g = (all_none (break_guards core n k) ok).1.1.1 in
     let f = found_some (write_in k (core.writes n)) (found_none (write_in k (core.writes n)) (NoWrite k) g.1.0) in
-    broken_from core a n k f.item (unless_none (is_up (core.state n)) _ g.0) f.is ((p.known.range.flight.requests n).write_sectors k f.item f.is)
+    record { write = f.item; up = unless_none (is_up (core.state n)) _ g.0; found = f.is; sector = (p.known.range.flight.requests n).write_sectors k f.item f.is }
+
+pub break_way : (core : Core) (a : Around) (n k : ℕ) (b : Broken core n k) → Way (here core a) (here (break_write core n k) (record a { broken = broken_there a.broken n b.write }))
+break_way core a n k b = broken_from core a n k b.write b.up b.found b.sector

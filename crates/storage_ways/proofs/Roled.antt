@@ -1,8 +1,8 @@
 -- What follows of roles from what is known of a part.
-use Rattle.std.proofs.Common.{◌≡◌, ℕ, not, ◌&&◌, ◌||◌, Bool, true, false, refl, ap, ◌∙◌, arith}
+use Rattle.std.proofs.Common.{◌≡◌, ℕ, not, ◌&&◌, ◌||◌, Bool, true, false, ap, ◌∙◌, arith}
 use Rattle.mdc_types.specs.Roles.{is_working, is_rebuilding, is_faulty, is_written}
 use Rattle.mdc_types.specs.declared.roles.Role.{Role}
-use Rattle.leg_failure.specs.Views.{works, is_target, is_unacked}
+use Rattle.leg_failure.specs.Views.{works, is_target}
 use Rattle.cluster_model.specs.Bits.{is_degraded}
 use Rattle.cluster_model.specs.Gathering.{is_again_of}
 use Rattle.cluster_model.specs.Phases.{is_in, is_up}

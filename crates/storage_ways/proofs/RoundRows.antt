@@ -1,61 +1,40 @@
 -- The ways of a round: it is published, taken, processed, resumed and dropped.
-use Rattle.std.proofs.Common.{◌≡◌, ◌≢◌, inl, inr, ℕ, ◌<◌, ◌≤◌, ◌==◌, ◌&&◌, ◌||◌, Bool, true, false, not, if◌then◌else◌, List, [], ◌∷◌, Option, Some, None, refl, sym, ap, subst, ◌∙◌, arith}
+use Rattle.std.proofs.Common.{◌≡◌, ◌≢◌, ℕ, ◌<◌, ◌≤◌, ◌==◌, Bool, true, false, not, if◌then◌else◌, [], ◌∷◌, Option, Some, None, refl, sym, ap, subst, ◌∙◌, arith}
 use Rattle.std.specs.Prelude.{is_some}
-use Rattle.std.proofs.lemmas.Bool.Decides.{nat_tests}
-use Rattle.dlm_modes.specs.Guards.{first_of, unless}
-use Rattle.dlm_modes.specs.Points.{with_at}
+use Rattle.dlm_modes.specs.Guards.{first_of}
 use Rattle.mdc_types.specs.Geometry.{Sizes}
-use Rattle.mdc_types.specs.Ranges.{holds}
-use Rattle.mdc_types.specs.Roles.{role_of, eight}
 use Rattle.mdc_types.specs.declared.events.Wish.{Wish}
 use Rattle.mdc_types.specs.declared.events.Wish.TheVariants as wishes
 use Rattle.mdc_types.specs.declared.numbers.Range.{Range}
-use Rattle.mdc_types.specs.declared.refusals.Refusal.{Refusal}
-use Rattle.mdc_types.specs.declared.refusals.Refusal.TheVariants.{Draining, SenderGone, SenderLive, NotGranted}
-use Rattle.mdc_types.specs.declared.resources.Res.TheVariants as resources
-use Rattle.mdc_types.specs.declared.roles.Role.{Role}
-use Rattle.mdc_types.specs.declared.roles.Roles.{Roles}
-use Rattle.mdc_types.specs.declared.roles.NodeState.{NodeState}
+use Rattle.mdc_types.specs.declared.refusals.Refusal.TheVariants.{Draining}
 use Rattle.cluster_msgs.specs.Ranges.{IsRange}
 use Rattle.cluster_msgs.specs.declared.msg.Body.{Body}
 use Rattle.cluster_msgs.specs.declared.msg.Body.TheVariants as bodies
-use Rattle.cluster_msgs.specs.declared.msg.Msg.{Msg}
-use Rattle.msg_rounds.specs.Locks as round_locks
-use Rattle.msg_rounds.specs.Locks.{message_res, message_processed, published}
-use Rattle.msg_rounds.specs.Phases.{is_idle, has_published, has_processed, may_receive, has_message}
-use Rattle.msg_rounds.specs.Refusals.{is_offered, is_taken, is_pr, may_resume}
+use Rattle.msg_rounds.specs.Locks.{message_res, published}
+use Rattle.msg_rounds.specs.Phases.{is_idle, has_published, has_message}
+use Rattle.msg_rounds.specs.Refusals.{is_offered, may_resume}
 use Rattle.msg_rounds.specs.declared.phases.SenderPhase.{SenderPhase}
 use Rattle.msg_rounds.specs.declared.phases.SenderPhase.TheVariants as senders
 use Rattle.msg_rounds.specs.declared.phases.ReceiverPhase.{ReceiverPhase}
-use Rattle.msg_rounds.specs.declared.phases.ReceiverPhase.TheVariants as receivers
-use Rattle.mirror_io.specs.Flight.{write_in, write_within, write_from}
-use Rattle.mirror_io.specs.declared.live.LiveWrite.{LiveWrite}
+use Rattle.mirror_io.specs.Flight.{write_within, write_from}
 use Rattle.mirror_io.proofs.Lookups.{write_within-none}
-use Rattle.leg_failure.specs.Views.{acknowledged}
 use Rattle.suspend_ranges.specs.Suspended.{entry_of}
 use Rattle.cluster_model.specs.State.{Core, Offer, sizes}
-use Rattle.cluster_model.specs.Changes.{sender_now, device_unlocked, no_new_dev}
-use Rattle.cluster_model.specs.Guards.{is_out}
-use Rattle.cluster_model.specs.Phases.{is_in, is_up, is_metadata, is_unclean, offers as offers_wish, sender_is, receiver_is}
-use Rattle.cluster_model.specs.Processing.{processed_guards, processed, do_message, do_body, draining_by, device_lock_kept}
-use Rattle.cluster_model.specs.Publishing.{publish_guards, offer_is_due, wish_is_due, publish, publish_offer, publish_wish, block_of, body_of, message_of, range_told}
-use Rattle.cluster_model.specs.Receiving.{take_guards, take, called_by, published_message, resume_guards, resume, receiver_idle, receiver_now, told_state, is_state_body, drop_guards, drop_message}
+use Rattle.cluster_model.specs.Changes.{sender_now, device_unlocked}
+use Rattle.cluster_model.specs.Phases.{is_in, is_up, is_metadata, is_unclean, offers as offers_wish, sender_is}
+use Rattle.cluster_model.specs.Publishing.{publish_guards, offer_is_due, wish_is_due, publish, publish_offer, publish_wish, block_of, body_of, range_told}
+use Rattle.cluster_model.specs.Receiving.{take_guards, take, called_by, published_message}
 use Rattle.laws_locks.specs.Rounded.{has_token, stands}
 use Rattle.laws_sound.specs.Legs.{WindowFits, WishFits}
 use Rattle.laws_sound.proofs.Guarded.{all_none, first_none, unless_none, refused_none, living}
-use Rattle.laws_sound.proofs.RoundFacts.{Standing, standing, no_offer, offered_stands, published_stands, is_taken_now, busy_receives, receives_silent}
+use Rattle.laws_sound.proofs.RoundFacts.{Standing, standing}
 use Rattle.laws_roles.proofs.FinishRows.{others_none}
-use Rattle.laws_roles.proofs.Known.{state_body, state_role}
-use Rattle.laws_roles.proofs.Parts as roles
-use Rattle.laws_roles.proofs.Parts.{body_role}
-use Rattle.laws_roles.proofs.RoundRows.{eight_of}
-use Rattle.storage_ways.proofs.Parts.{Part, is_range, told_by}
-use Rattle.storage_ways.proofs.Place.{Around, here, Place, sound_of, published_sends}
-use Rattle.storage_ways.proofs.Blocks.{retold, told_high, told_range_at, told_unlocked, told_published, told_device, told_processed, told_resumed}
+use Rattle.storage_ways.proofs.Parts.{is_range, told_by}
+use Rattle.storage_ways.proofs.Place.{Around, here, Place, sound_of}
+use Rattle.storage_ways.proofs.Blocks.{retold, told_high, told_range_at, told_unlocked, told_published}
 use Rattle.storage_ways.proofs.ComingRows.{silent_by}
 use Rattle.storage_ways.proofs.GoingRows.{no_write}
-use Rattle.storage_ways.proofs.Guarding.{live_node}
-use Rattle.storage_ways.proofs.Ways.{Way, Silent, Shutting, Publishing, Hearing, Resting, NoneWithin, shuts, publishes, takes, hears_roles, hears_range, hears, resumes, rests}
+use Rattle.storage_ways.proofs.Ways.{Way, Publishing, NoneWithin, shuts, publishes, takes}
 
 offered_is : (s : SenderPhase) → is_offered s ≡ true → s ≡ senders.Offered
 offered_is senders.Offered e = refl

@@ -1,32 +1,33 @@
 -- Along each run over legs that tell: what is known at each place, and that each step is made of ways.
-use Rattle.std.proofs.Common.{◌≡◌, inl, inr, ℕ, ◌<◌, ◌≤◌, ◌^◌, ◌==◌, ◌&&◌, Bool, true, false, List, [], ◌∷◌, Option, Some, None, refl, sym, ap, subst, ◌∙◌, arith, nat_lt, if◌then◌else◌}
+use Rattle.std.proofs.Common.{◌≡◌, inl, inr, ℕ, ◌<◌, ◌≤◌, ◌^◌, ◌&&◌, Bool, true, false, List, [], ◌∷◌, sym, ap, subst, ◌∙◌, arith, nat_lt, if◌then◌else◌}
 use Rattle.std.proofs.lemmas.Bool.{cases_lt}
 use Rattle.std.proofs.lemmas.Bool.Decides.{nat_tests}
 use Rattle.std.proofs.lemmas.Nat.Bits.{bit_at_above}
 use Rattle.mdc_types.specs.Bits.{has_bit}
-use Rattle.mdc_types.specs.Geometry.{Sizes, chunks_of, nodes_of, page_of}
-use Rattle.mdc_types.specs.declared.numbers.Sector.{Sector}
+use Rattle.mdc_types.specs.Geometry.{Sizes, chunks_of, nodes_of}
 use Rattle.mdc_types.specs.declared.outcomes.Entry.{Entry}
 use Rattle.md_superblock.specs.Arrays.{Array}
-use Rattle.plain_history.specs.History.{PlainWrite, candidates, values_at, live_writes, values_step}
-use Rattle.cluster_model.specs.State.{State, Core, Legs, sizes}
+use Rattle.plain_history.specs.History.{candidates, values_at}
+use Rattle.cluster_model.specs.State.{State, Legs, sizes}
 use Rattle.cluster_model.specs.After.{after}
 use Rattle.cluster_model.specs.Contents.{Opens}
-use Rattle.cluster_model.specs.Opening.{Origin, IsOrigin, array_of, core_at}
+use Rattle.cluster_model.specs.Opening.{Origin, array_of}
 use Rattle.cluster_model.specs.Run.{Run, Step, Moves, Quiet, Written, Read, Failed, Left}
 use Rattle.cluster_model.specs.Stored.{bit_on, data_on}
 use Rattle.laws_locks.proofs.OtherRuns.{other_locks_hold}
 use Rattle.laws_locks.proofs.Runs.{run_is}
 use Rattle.laws_roles.specs.Laws.{Tells}
-use Rattle.laws_roles.proofs.Known.{Known, known}
+use Rattle.laws_roles.proofs.Known.{known}
 use Rattle.laws_roles.proofs.Parts as roles
 use Rattle.laws_roles.proofs.Parts.{supers, ghost_after, ghost_in}
 use Rattle.laws_roles.proofs.Runs as role_runs
 use Rattle.laws_roles.proofs.Runs.{array_is, holds}
 use Rattle.laws_roles.proofs.Standing.{Bytes}
+use Rattle.storage_ways.specs.Since.{since_in}
+use Rattle.storage_ways.specs.Broken.{broken_in}
 use Rattle.storage_ways.proofs.Flying.{flying, live_are}
 use Rattle.storage_ways.proofs.KeptSteps.{Kept, kept_ways}
-use Rattle.storage_ways.proofs.Moving.{around, next}
+use Rattle.storage_ways.proofs.Moving.{Traced, traced, around}
 use Rattle.storage_ways.proofs.Parts.{Part, bits_on}
 use Rattle.storage_ways.proofs.Place.{Around, here, Place, sound_of}
 use Rattle.storage_ways.proofs.Sound.{Sound}
@@ -78,21 +79,27 @@ bit_below set k n small e = elim (cases_lt n k) [
     not_both b e f = cc
 
 -- what stands on the legs of an array
-abbrev pub around_on : Array → Legs → roles.Ghost → (ℕ → List Sector) → Around
-around_on array legs g values = record {
+abbrev pub around_on : Array → Legs → roles.Ghost → Traced → Around
+around_on array legs g t = record {
   super = supers array legs;
   bit = bits_on array.sizes legs;
   stored = data_on array.sizes legs;
   ghost = g;
-  values = values;
+  values = t.values;
+  broken = t.broken;
+  since = t.since;
 }
 
 module _ (o : Origin) (start : State) (opens : Opens o start) (tells : Tells o start) where
   abbrev pub home : ℕ
   home = role_runs.home o start opens tells
 
+  -- what the entries tell
+  abbrev pub traced_in : List Entry → Traced
+  traced_in past = record { values = candidates (values_at o.base) past; broken = broken_in past; since = since_in past }
+
   abbrev pub around_at : List Entry → State → Around
-  around_at past end = around_on (array_of o) end.legs (ghost_in o home past) (candidates (values_at o.base) past)
+  around_at past end = around_on (array_of o) end.legs (ghost_in o home past) (traced_in past)
 
   abbrev pub At : List Entry → State → Part
   At past end = here end.core (around_at past end)
@@ -118,7 +125,7 @@ module _ (o : Origin) (start : State) (opens : Opens o start) (tells : Tells o s
   ways_from past mid end x run s p =
       let array = array_is o start mid past opens run in
       let g = ghost_in o home past in
-      let vs = candidates (values_at o.base) past in
+      let vs = traced_in past in
       let bytes : Bytes mid.core.array = subst Bytes (sym array) (record { name = tells.name; uuid = tells.uuid }) in
       let told : (j : ℕ) → j < (sizes mid.core).legs → mid.legs.told j ≡ true
       = λ j lt. legs_tell start mid past run j ∙ tells.legs j (subst (λ (a : Array). j < a.sizes.legs) array lt) in
@@ -126,10 +133,10 @@ module _ (o : Origin) (start : State) (opens : Opens o start) (tells : Tells o s
       let w = move_ways mid g vs there bytes told x.event x.outcome end.legs s.accepted s.moves in
       let leads = (run_is o start opens.core past mid run).leads in
       let live = live_are o start mid past opens run in
-      subst (λ c. Ways (At past mid) (here end.core (around_on (array_of o) end.legs (ghost_after c x.event g) (candidates (values_at o.base) (x ∷ past))))) leads
-      (subst (λ f. Ways (At past mid) (here end.core (around_on (array_of o) end.legs (ghost_after mid.core x.event g) (values_step x.event x.outcome f vs)))) (sym live)
-      (subst (λ c. Ways (At past mid) (here c (around_on (array_of o) end.legs (ghost_after mid.core x.event g) (values_step x.event x.outcome (flying mid.core.writes) vs)))) (sym s.core)
-      (subst (λ (a : Array). Ways (here mid.core (around_on a mid.legs g vs)) (here (after mid.core x.event x.outcome) (around_on a end.legs (ghost_after mid.core x.event g) (values_step x.event x.outcome (flying mid.core.writes) vs)))) array w)))
+      subst (λ c. Ways (At past mid) (here end.core (around_on (array_of o) end.legs (ghost_after c x.event g) (traced_in (x ∷ past))))) leads
+      (subst (λ f. Ways (At past mid) (here end.core (around_on (array_of o) end.legs (ghost_after mid.core x.event g) (traced x.event x.outcome f vs)))) (sym live)
+      (subst (λ c. Ways (At past mid) (here c (around_on (array_of o) end.legs (ghost_after mid.core x.event g) (traced x.event x.outcome (flying mid.core.writes) vs)))) (sym s.core)
+      (subst (λ (a : Array). Ways (here mid.core (around_on a mid.legs g vs)) (here (after mid.core x.event x.outcome) (around_on a end.legs (ghost_after mid.core x.event g) (traced x.event x.outcome (flying mid.core.writes) vs)))) array w)))
 
   first_kept : Kept (At [] start)
   first_kept =

@@ -1,8 +1,7 @@
 -- What is known of a part at each place of a run, whatever is written or copied: who may be read,
 -- who copies under `resync`, whose slots are pending, and that numbers are in range.
-use Rattle.std.specs.Prelude.{◌≡◌, ◌≢◌, ℕ, ◌<◌, ◌≤◌, Bool, true, false, not, ◌&&◌, Option, Some, None, [], is_some}
-use Rattle.mdc_types.specs.Geometry.{IsGeometry, chunks_of, nodes_of, chunk_of}
-use Rattle.mdc_types.specs.declared.numbers.Range.{Range}
+use Rattle.std.specs.Prelude.{◌≡◌, ◌≢◌, ℕ, ◌<◌, true, false, not, Some, None, [], is_some}
+use Rattle.mdc_types.specs.Geometry.{IsGeometry, chunks_of, nodes_of}
 use Rattle.mdc_types.specs.declared.roles.NodeState.TheVariants as states
 use Rattle.msg_rounds.specs.Phases.{is_idle, has_published}
 use Rattle.leg_failure.specs.Views.{works}
@@ -11,7 +10,7 @@ use Rattle.mirror_io.specs.declared.live.LiveWrite.{LiveWrite}
 use Rattle.node_recovery.specs.Progress.{Recovering}
 use Rattle.resync_worker.specs.Copying.{Passing}
 use Rattle.resync_worker.specs.declared.buffer.Buffer.{Buffer}
-use Rattle.cluster_model.specs.State.{Offer, Held, NotAsked}
+use Rattle.cluster_model.specs.State.{Held, NotAsked}
 use Rattle.cluster_model.specs.Changes.{no_copy}
 use Rattle.cluster_model.specs.Guards.{is_out}
 use Rattle.cluster_model.specs.Phases.{is_in, is_up, is_unclean, is_metadata, offers}

@@ -1,9 +1,9 @@
 -- What a transfer does to the bits and the data that stand on the legs: superblock, pages and data
 -- lie apart.
-use Rattle.std.proofs.Common.{◌≡◌, ◌⊎◌, inl, inr, ℕ, ◌+◌, ◌-◌, ◌*◌, ◌/◌, ◌<◌, ◌≤◌, ◌==◌, ◌&&◌, Bool, true, false, if◌then◌else◌, List, refl, sym, ap, subst, ◌∙◌, arith, nat_lt, nat_le}
+use Rattle.std.proofs.Common.{◌≡◌, ◌⊎◌, inl, inr, ℕ, ◌+◌, ◌-◌, ◌*◌, ◌/◌, ◌<◌, ◌≤◌, ◌==◌, ◌&&◌, Bool, true, false, if◌then◌else◌, List, refl, sym, ap, ◌∙◌, arith, nat_lt, nat_le}
 use Rattle.std.proofs.Math.Path.{fun_ext}
 use Rattle.std.proofs.lemmas.Bool.Decides.{nat_tests}
-use Rattle.mdc_types.specs.Geometry.{Sizes, IsGeometry, nodes_of, chunks_of, most_chunks, page_of, pages_of, parts_of, page_sector, slot_pages, data_offset, data_offset_of}
+use Rattle.mdc_types.specs.Geometry.{Sizes, IsGeometry, nodes_of, chunks_of, page_of, pages_of, parts_of, page_sector, slot_pages, data_offset}
 use Rattle.mdc_types.specs.declared.numbers.Sector.{Sector}
 use Rattle.slot_pages.specs.Slot.{page_has, spelled_page, chunk_bit}
 use Rattle.slot_pages.proofs.Spelled.{has_the_set}

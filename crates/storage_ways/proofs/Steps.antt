@@ -1,8 +1,7 @@
 -- The ways of each step.
-use Rattle.std.proofs.Common.{◌≡◌, ℕ, ◌<◌, Bool, true, false, List, Option, Some, None, refl}
+use Rattle.std.proofs.Common.{◌≡◌, ℕ, ◌<◌, true, None, refl}
 use Rattle.mdc_types.specs.declared.events.Event.{Event}
 use Rattle.mdc_types.specs.declared.events.Event.TheVariants as events
-use Rattle.mdc_types.specs.declared.numbers.Sector.{Sector}
 use Rattle.mdc_types.specs.declared.outcomes.Outcome.{Outcome}
 use Rattle.cluster_model.specs.State.{State, Legs, sizes}
 use Rattle.cluster_model.specs.After.{after}
@@ -14,14 +13,14 @@ use Rattle.laws_sound.proofs.Guarded.{all_none, unless_none}
 use Rattle.laws_roles.proofs.Parts as roles
 use Rattle.laws_roles.proofs.Standing.{Bytes}
 use Rattle.storage_ways.proofs.Place.{here, Place}
-use Rattle.storage_ways.proofs.Moving.{around, next}
+use Rattle.storage_ways.proofs.Moving.{Traced, around, next}
 use Rattle.storage_ways.proofs.QuietSteps.{quiet_ways}
 use Rattle.storage_ways.proofs.ReadSteps.{load_step, in_step, gather_step, copy_in_step, slot_in_step}
 use Rattle.storage_ways.proofs.SuperSteps.{super_step}
 use Rattle.storage_ways.proofs.WriteSteps.{page_step, out_step, copy_step, slot_step}
 use Rattle.storage_ways.proofs.Ways.{Ways}
 
-module _ (old : State) (g : roles.Ghost) (vs : ℕ → List Sector) (p : Place old.core (around old.core old.legs g vs)) (bytes : Bytes old.core.array) (told : (j : ℕ) → j < (sizes old.core).legs → old.legs.told j ≡ true) where
+module _ (old : State) (g : roles.Ghost) (vs : Traced) (p : Place old.core (around old.core old.legs g vs)) (bytes : Bytes old.core.array) (told : (j : ℕ) → j < (sizes old.core).legs → old.legs.told j ≡ true) where
   pub move_ways : (e : Event) (o : Outcome) (new : Legs) → refusal old.core e ≡ None → Moves old e o new → Ways (here old.core (around old.core old.legs g vs)) (here (after old.core e o) (next old g vs e o new))
   move_ways (events.Load n l) o new ok m = load_step old g vs p told n l o new ok m
   move_ways (events.WriteSuper n l) o new ok m = super_step old g vs p bytes told n l o new ok m

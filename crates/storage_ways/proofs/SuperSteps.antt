@@ -1,17 +1,15 @@
 -- The ways of a superblock that is written.
-use Rattle.std.proofs.Common.{◌≡◌, ◌≢◌, inl, inr, ℕ, ◌<◌, ◌≤◌, ◌==◌, ◌&&◌, Bool, true, false, if◌then◌else◌, List, Option, Some, None, refl, sym, ap, subst, ◌∙◌, arith}
+use Rattle.std.proofs.Common.{◌≡◌, inl, ℕ, ◌<◌, ◌&&◌, Bool, true, false, if◌then◌else◌, Some, None, refl, sym, ap, subst, ◌∙◌, arith}
 use Rattle.std.specs.Prelude.{nat_lt, option_map}
 use Rattle.dlm_modes.specs.Guards.{first_of}
 use Rattle.dlm_modes.specs.Points.{with_at}
 use Rattle.mdc_types.specs.Geometry.{Sizes, data_offset, data_offset_of}
 use Rattle.mdc_types.specs.declared.events.Event.{Event}
 use Rattle.mdc_types.specs.declared.events.Event.TheVariants as events
-use Rattle.mdc_types.specs.declared.numbers.Sector.{Sector}
 use Rattle.mdc_types.specs.declared.outcomes.Outcome.{Outcome}
 use Rattle.mdc_types.specs.declared.outcomes.Outcome.TheVariants as outcomes
 use Rattle.mdc_types.specs.declared.refusals.Refusal.TheVariants.{NoLeg}
 use Rattle.mdc_types.specs.declared.roles.NodeState.{NodeState}
-use Rattle.md_superblock.specs.Arrays.{Says}
 use Rattle.msg_rounds.specs.Phases.{has_published}
 use Rattle.msg_rounds.specs.Refusals.{is_offered}
 use Rattle.msg_rounds.specs.declared.phases.SenderPhase.{SenderPhase}
@@ -40,11 +38,11 @@ use Rattle.storage_ways.proofs.Sound.{Sound}
 use Rattle.storage_ways.proofs.ComingRows.{silent_by}
 use Rattle.storage_ways.proofs.Failing.{append, failed_ways, unreached_ways}
 use Rattle.storage_ways.proofs.Guarding.{below_legs}
-use Rattle.storage_ways.proofs.Moving.{around, next, Puts, well, ill, left, puts_of, moved, standing_so}
+use Rattle.storage_ways.proofs.Moving.{Traced, around, next, Puts, well, ill, left, puts_of, moved, standing_so}
 use Rattle.storage_ways.proofs.RoundRows.{its_offer}
 use Rattle.storage_ways.proofs.Standing.{bits_stay, data_stays}
 use Rattle.storage_ways.proofs.Voided.{super_sound}
-use Rattle.storage_ways.proofs.Ways.{Way, Ways, Writing, one, none, writes_super, leaves_super, still}
+use Rattle.storage_ways.proofs.Ways.{Ways, Writing, one, none, writes_super, leaves_super, still}
 
 offered_is : (s : SenderPhase) → is_offered s ≡ true → s ≡ senders.Offered
 offered_is senders.Offered e = refl
@@ -63,7 +61,7 @@ past_super g = by g.second
     by true = omega arith
     by false = omega arith
 
-module _ (old : State) (g : roles.Ghost) (vs : ℕ → List Sector) (p : Place old.core (around old.core old.legs g vs)) (bytes : Bytes old.core.array) (told : (j : ℕ) → j < (sizes old.core).legs → old.legs.told j ≡ true) where
+module _ (old : State) (g : roles.Ghost) (vs : Traced) (p : Place old.core (around old.core old.legs g vs)) (bytes : Bytes old.core.array) (told : (j : ℕ) → j < (sizes old.core).legs → old.legs.told j ≡ true) where
   abbrev pub A : Around
   A = around old.core old.legs g vs
 

@@ -1,15 +1,15 @@
 -- What is known where an offer that isn't published was void, and where a superblock stands though its
 -- write failed.
-use Rattle.std.proofs.Common.{◌≡◌, ◌≢◌, inl, inr, ℕ, ◌<◌, ◌≤◌, ◌==◌, ◌&&◌, Bool, true, false, not, if◌then◌else◌, List, [], ◌∷◌, Option, Some, None, refl, sym, ap, subst, ◌∙◌, arith}
+use Rattle.std.proofs.Common.{◌≡◌, ℕ, ◌==◌, Bool, true, false, if◌then◌else◌, Option, Some, None, refl, sym, ap, ◌∙◌, arith}
 use Rattle.std.specs.Prelude.{is_some}
 use Rattle.std.proofs.lemmas.Bool.Decides.{nat_tests}
 use Rattle.dlm_modes.specs.Points.{with_at}
 use Rattle.md_superblock.specs.Arrays.{Says}
-use Rattle.msg_rounds.specs.Phases.{is_idle, has_published}
+use Rattle.msg_rounds.specs.Phases.{has_published}
 use Rattle.msg_rounds.specs.declared.phases.SenderPhase.{SenderPhase}
 use Rattle.msg_rounds.specs.declared.phases.SenderPhase.TheVariants as senders
-use Rattle.cluster_model.specs.State.{Offer, NotAsked}
-use Rattle.cluster_model.specs.Phases.{is_in, is_up, is_metadata, is_unclean, offers as offers_wish}
+use Rattle.cluster_model.specs.State.{Offer}
+use Rattle.cluster_model.specs.Phases.{is_metadata, is_unclean, offers as offers_wish}
 use Rattle.cluster_model.specs.Superblocks.{says_of_offer}
 use Rattle.laws_locks.specs.Rounded.{has_token, stands}
 use Rattle.laws_roles.proofs.Ways as role_ways
@@ -18,7 +18,7 @@ use Rattle.laws_roles.proofs.SourceSteps.{sources_step}
 use Rattle.laws_roles.proofs.NumberSteps.{numbers_step}
 use Rattle.laws_roles.proofs.LateSteps.{roles_step}
 use Rattle.storage_ways.proofs.Parts.{Part, roles_of}
-use Rattle.storage_ways.proofs.Sound.{Sound, Phases, Turns, Rests, Within}
+use Rattle.storage_ways.proofs.Sound.{Sound, Rests, Within}
 
 -- a void sender tells of nothing else
 tells_same : {A : Type 0} (test : SenderPhase → A) (f : ℕ → SenderPhase) (n m : ℕ) → f n ≡ senders.Offered → test senders.MessageHeld ≡ test senders.Offered → test (with_at f n senders.MessageHeld m) ≡ test (f m)

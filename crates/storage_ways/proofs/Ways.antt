@@ -1,15 +1,14 @@
 -- The ways in which an accepted event changes the part, each with what its guards, the rounds and
 -- the legs tell.
-use Rattle.std.specs.Prelude.{◌≡◌, ◌≢◌, ◌⊎◌, ℕ, ◌+◌, ◌/◌, ◌%◌, ◌<◌, ◌≤◌, ◌==◌, Bool, true, false, ◌&&◌, ◌||◌, not, if◌then◌else◌, Option, Some, None, is_some, option_map, nat_lt, List, [], ◌∷◌, ◌++◌}
+use Rattle.std.specs.Prelude.{◌≡◌, ◌≢◌, ◌⊎◌, ℕ, ◌+◌, ◌/◌, ◌%◌, ◌<◌, ◌≤◌, ◌==◌, Bool, true, false, ◌&&◌, ◌||◌, if◌then◌else◌, Option, Some, None, option_map, nat_lt, List, []}
 use Rattle.dlm_modes.specs.Points.{with_at}
 use Rattle.mdc_types.specs.Bits.{has_bit}
-use Rattle.mdc_types.specs.Geometry.{Sizes, chunk_of, chunks_of, page_of, pages_of}
+use Rattle.mdc_types.specs.Geometry.{chunks_of, page_of, pages_of}
 use Rattle.mdc_types.specs.Ranges.{holds}
 use Rattle.mdc_types.specs.Roles.{role_of, eight, is_working, is_rebuilding, is_faulty}
 use Rattle.mdc_types.specs.declared.numbers.Range.{Range}
 use Rattle.mdc_types.specs.declared.numbers.Sector.{Sector}
 use Rattle.mdc_types.specs.declared.events.Wish.TheVariants as wishes
-use Rattle.mdc_types.specs.declared.roles.Role.{Role}
 use Rattle.mdc_types.specs.declared.roles.Roles.{Roles}
 use Rattle.mdc_types.specs.declared.roles.NodeState.TheVariants as states
 use Rattle.cluster_msgs.specs.declared.msg.Msg.{Msg}
@@ -20,7 +19,6 @@ use Rattle.msg_rounds.specs.declared.phases.SenderPhase.TheVariants as senders
 use Rattle.msg_rounds.specs.declared.phases.ReceiverPhase.{ReceiverPhase}
 use Rattle.msg_rounds.specs.declared.phases.ReceiverPhase.TheVariants as receivers
 use Rattle.msg_rounds.specs.Refusals.{is_offered, is_taken}
-use Rattle.disk_addition.specs.Wishes.{is_announced, is_readd}
 use Rattle.disk_addition.specs.declared.addition.Addition.TheVariants.{Nothing}
 use Rattle.leg_failure.specs.Views.{NodeView, works, is_target, is_unacked, new_view, lost_one, acknowledged, finished, taken as view_taken, fresh_targets}
 use Rattle.mirror_io.specs.Flight.{write_in, is_done, new_write, started, done_on, start_in, done_in, without_write}
@@ -28,11 +26,10 @@ use Rattle.mirror_io.specs.declared.live.LiveWrite.{LiveWrite}
 use Rattle.node_bitmaps.specs.Bitmap.{Bitmap, with_set, with_need, entered, exited, written, failed, found_page, forgotten, with_new_legs}
 use Rattle.node_recovery.specs.Progress.{Recovering, begun as new_recovery, with_read, with_cleared, with_found}
 use Rattle.resync_worker.specs.Copying.{Passing, begun, filled, copied, settled_at, completes, next_in}
-use Rattle.resync_worker.specs.Sectors.{is_edge}
 use Rattle.resync_worker.specs.declared.buffer.Buffer.{Buffer}
 use Rattle.suspend_ranges.specs.Suspended.{entry_of, suspends}
-use Rattle.slot_gathering.specs.Gatherings.{Gathering, gathered_page, all_pages}
-use Rattle.cluster_model.specs.State.{Offer, Tried, Untried, Adding, Copy, Turn, NotAsked, Asked, Held}
+use Rattle.slot_gathering.specs.Gatherings.{gathered_page, all_pages}
+use Rattle.cluster_model.specs.State.{Offer, Tried, Untried, Copy, NotAsked, Asked, Held}
 use Rattle.cluster_model.specs.Changes.{no_view, no_copy, not_adding, covering, window_closed}
 use Rattle.cluster_model.specs.Copying.{need_met}
 use Rattle.cluster_model.specs.Bits.{is_degraded}
@@ -40,14 +37,12 @@ use Rattle.cluster_model.specs.Finishing.{adding_after}
 use Rattle.cluster_model.specs.Gathering.{is_again, is_again_of}
 use Rattle.cluster_model.specs.Joining.{says_of}
 use Rattle.cluster_model.specs.Phases.{is_in, is_up, is_joining, is_metadata, is_unclean, offers as offers_wish}
-use Rattle.cluster_model.specs.Receiving.{told_state}
 use Rattle.cluster_model.specs.Superblocks.{says_of_offer, written_on}
 use Rattle.cluster_model.specs.Wishes.{is_window}
 use Rattle.laws_locks.specs.Rounded.{has_token}
-use Rattle.laws_roles.proofs.Parts as roles
-use Rattle.laws_roles.proofs.Parts.{changes_super, offered_role, heard_role, promotes, needs_known, with_finish, with_source, with_wish}
+use Rattle.laws_roles.proofs.Parts.{promotes, needs_known, with_finish, with_source, with_wish}
 use Rattle.storage_ways.proofs.Sound.{Sound}
-use Rattle.storage_ways.proofs.Parts.{Part, chunk_in, is_range, offered_range, tells_range, has_pass, buffer_in, covers, recovers, with_page, with_page_if, with_data, with_data_if, tried_values, decided_values}
+use Rattle.storage_ways.proofs.Parts.{Part, chunk_in, is_range, has_pass, covers, recovers, with_page, with_page_if, with_data, with_data_if, tried_values, decided_values, broken_there, decided_there, joined_there, settled_there, begun_there}
 
 -- What guards tell.
 
@@ -403,7 +398,6 @@ pub record Writing (w : Part) (n l : ℕ) (o : Offer) : Type 0 where
 
 pub data Way (w : Part) : Part → Type 0 where
   still : Way w w
-
   -- Rounds.
 
   -- a sender goes on, and neither publishes nor ends
@@ -482,7 +476,6 @@ pub data Way (w : Part) : Part → Type 0 where
       })
   rests : (n : ℕ) → Resting w n
       → Way w (record w { receiver = receiver_now w n receivers.Idle; heard = with_at w.heard n None })
-
   -- Superblocks.
 
   loads : (n l : ℕ) (t : Tried) → is_joining (w.state n) ≡ true → Silent w
@@ -496,7 +489,6 @@ pub data Way (w : Part) : Part → Type 0 where
       → Way w (record w { super = with_at w.super l (Some (says_of_offer o)) })
   loses : (n l : ℕ) → is_offered (w.sender n) ≡ false → is_up (w.state n) ≡ true ⊎ is_in (w.state n) ≡ true
       → Way w (record w { view = with_at w.view n (lost_one (w.view n) l) })
-
   -- Coming and going.
 
   joins : (n : ℕ) → Joining w n
@@ -504,6 +496,7 @@ pub data Way (w : Part) : Part → Type 0 where
         state = with_at w.state n states.Joining;
         live = with_at w.live n true;
         sender = with_at w.sender n senders.TokenAsked;
+        broken = joined_there w.broken n;
       })
   comes : (n k : ℕ) (says : Says) (lost : ℕ → Bool) (ranges : ℕ → Option Range) → Coming w n k says ranges
       → Way w (record w {
@@ -581,7 +574,6 @@ pub data Way (w : Part) : Part → Type 0 where
         live = with_at w.live n false;
         pending = with_at w.pending n true;
       })
-
   -- Requests.
 
   asks : (n s k : ℕ) (v : Sector) (new : List LiveWrite) → Asking w n s k v new
@@ -607,13 +599,14 @@ pub data Way (w : Part) : Part → Type 0 where
         writes = with_at w.writes n (without_write k (w.writes n));
         bitmap = with_at w.bitmap n (exited (w.bitmap n) (chunk_in w x.sector));
         values = decided_values w.values x.sector x.value;
+        broken = decided_there w.broken x.sector;
       })
   breaks : (n k : ℕ) (x : LiveWrite) → Ending w n k x
       → Way w (record w {
         writes = with_at w.writes n (without_write k (w.writes n));
         bitmap = with_at w.bitmap n (with_need (exited (w.bitmap n) (chunk_in w x.sector)) (chunk_in w x.sector) true);
+        broken = broken_there w.broken n x;
       })
-
   -- Bitmaps.
 
   marks : (n p l : ℕ) → PageTo w n p l
@@ -629,7 +622,6 @@ pub data Way (w : Part) : Part → Type 0 where
       })
   clears : (n c : ℕ) → Clearing w n c
       → Way w (record w { bitmap = with_at w.bitmap n (with_set (w.bitmap n) c false) })
-
   -- Copying.
 
   turns : (n : ℕ) → is_up (w.state n) ≡ true → (w.copy n).turn ≡ NotAsked → (has_published (w.sender n) && offers_wish is_unclean (w.offer n)) ≡ false
@@ -659,15 +651,17 @@ pub data Way (w : Part) : Part → Type 0 where
         copy = pass_with w n (λ q. settled_at w.geometry q b);
         bitmap = with_at w.bitmap n (need_met (w.bitmap n) (completes w.geometry b));
         values = decided_values w.values b.sector b.value;
+        broken = decided_there w.broken b.sector;
+        since = settled_there w.since b.sector;
       })
   ends_pass : (n : ℕ) → EndsPass w n → Way w (record w { copy = with_at w.copy n no_copy })
-
   -- Recovery.
 
   recovers_slot : (n d : ℕ) → Recovers w n d
       → Way w (record w {
         heir = with_at w.heir d (Some n);
         recovery = with_at w.recovery n (Some (new_recovery d));
+        since = begun_there w.since n;
       })
   slot_reads : (n p l : ℕ) (r : Recovering) (has : ℕ → Bool) → SlotReads w n p l r has
       → Way w (record w {

@@ -1,21 +1,19 @@
 -- The ways of each event that writes a page or data.
-use Rattle.std.proofs.Common.{◌≡◌, ◌⊎◌, inl, inr, ℕ, ◌+◌, ◌*◌, ◌<◌, ◌≤◌, ◌==◌, ◌&&◌, Bool, true, false, List, Option, Some, None, refl, sym, ap, subst, ◌∙◌, arith}
-use Rattle.std.specs.Prelude.{option_map}
+use Rattle.std.proofs.Common.{◌≡◌, inr, ℕ, ◌+◌, ◌*◌, ◌<◌, ◌≤◌, Bool, true, false, Option, Some, None, refl, sym, ap, subst, arith}
 use Rattle.mdc_types.specs.Geometry.{Sizes, IsGeometry, chunks_of, page_sector, pages_of, nodes_of, slot_pages, data_offset, data_offset_of}
 use Rattle.mdc_types.specs.declared.events.Event.{Event}
 use Rattle.mdc_types.specs.declared.events.Event.TheVariants as events
 use Rattle.mdc_types.specs.declared.numbers.Sector.{Sector}
 use Rattle.mdc_types.specs.declared.outcomes.Outcome.{Outcome}
 use Rattle.mdc_types.specs.declared.outcomes.Outcome.TheVariants as outcomes
-use Rattle.md_superblock.specs.Arrays.{Says}
-use Rattle.mirror_io.specs.Flight.{write_in, started}
+use Rattle.mirror_io.specs.Flight.{started}
 use Rattle.mirror_io.specs.declared.live.LiveWrite.{LiveWrite}
 use Rattle.node_recovery.specs.Progress.{Recovering}
-use Rattle.plain_history.specs.History.{PlainWrite, values_step, with_start}
+use Rattle.plain_history.specs.History.{PlainWrite, with_start}
 use Rattle.resync_worker.specs.declared.buffer.Buffer.{Buffer}
 use Rattle.cluster_model.specs.State.{State, Core, Legs, sizes, place_of}
-use Rattle.cluster_model.specs.After.{after, done}
-use Rattle.cluster_model.specs.Bits.{page_sector_of, page_written, page_failed}
+use Rattle.cluster_model.specs.After.{after}
+use Rattle.cluster_model.specs.Bits.{page_sector_of, page_written}
 use Rattle.cluster_model.specs.Copying.{copied_out}
 use Rattle.cluster_model.specs.Failures.{lost_or_io, slot_failed}
 use Rattle.cluster_model.specs.Phases.{is_in, is_up}
@@ -23,10 +21,11 @@ use Rattle.cluster_model.specs.Run.{Moves, put}
 use Rattle.cluster_model.specs.Stored.{data_on}
 use Rattle.cluster_model.specs.Table.{refusal}
 use Rattle.cluster_model.specs.Transfers.{Transfer, transfer_of, writes_to, out_transfer, copy_out_transfer, slot_out_transfer}
-use Rattle.cluster_model.specs.Writes.{start_write, out_done, write_ended}
+use Rattle.cluster_model.specs.Writes.{start_write, out_done}
 use Rattle.laws_roles.proofs.Parts as roles
 use Rattle.laws_roles.proofs.Parts.{supers}
 use Rattle.laws_roles.proofs.Standing.{others_stand}
+use Rattle.storage_ways.specs.Broken.{tried_by}
 use Rattle.storage_ways.proofs.Flying.{flying, plain_of}
 use Rattle.storage_ways.proofs.Parts.{Part, bits_on, with_page, with_page_if, with_data, with_data_if, tried_values}
 use Rattle.storage_ways.proofs.Place.{Around, here, Place, sound_of}
@@ -34,13 +33,13 @@ use Rattle.storage_ways.proofs.Sound.{Sound}
 use Rattle.storage_ways.proofs.Between.{copy_sound, try_sound, page_sound}
 use Rattle.storage_ways.proofs.BitmapRows.{page_to, page_way, missed_page_way}
 use Rattle.storage_ways.proofs.CopyRows.{Copied, to_copy, copy_way, missed_copy_way}
-use Rattle.storage_ways.proofs.Failing.{failed_ways}
+use Rattle.storage_ways.proofs.Failing.{failed_by, failed_ways}
 use Rattle.storage_ways.proofs.Guarding.{up_node}
-use Rattle.storage_ways.proofs.Moving.{around, next, Puts, well, ill, left, puts_of, moved, standing_so}
+use Rattle.storage_ways.proofs.Moving.{Traced, traced, around, next, Puts, well, ill, left, puts_of, moved, standing_so}
 use Rattle.storage_ways.proofs.RecoveryRows.{PageCleared, page_cleared_so, slot_out_way, missed_slot_way}
 use Rattle.storage_ways.proofs.RequestRows.{Tries, tries, out_way, missed_way, tried_found, broken_from}
 use Rattle.storage_ways.proofs.Standing.{bits_stay, bits_put, data_stays, data_put, page_before, used_page_there}
-use Rattle.storage_ways.proofs.Ways.{Way, Ways, PageTo, one, none, more, still}
+use Rattle.storage_ways.proofs.Ways.{Ways, PageTo, one, still}
 
 -- pages and data lie behind the superblock
 page_far : (g : Sizes) (n q : ℕ) → 16 ≤ page_sector g n q
@@ -59,7 +58,7 @@ data_far g s = by g.second
 no_chunk : (c n : ℕ) → false ≡ true → c < n
 no_chunk c n e = cc
 
-module _ (old : State) (g : roles.Ghost) (vs : ℕ → List Sector) (p : Place old.core (around old.core old.legs g vs)) (told : (j : ℕ) → j < (sizes old.core).legs → old.legs.told j ≡ true) where
+module _ (old : State) (g : roles.Ghost) (vs : Traced) (p : Place old.core (around old.core old.legs g vs)) (told : (j : ℕ) → j < (sizes old.core).legs → old.legs.told j ≡ true) where
   abbrev pub A : Around
   A = around old.core old.legs g vs
 
@@ -73,8 +72,8 @@ module _ (old : State) (g : roles.Ghost) (vs : ℕ → List Sector) (p : Place o
   geometry = p.known.range.legs.sizes_fit
 
   -- a page that was put there
-  page_there : (n q l : ℕ) (set : ℕ → Bool) (w : Part) (core : Core) (gh : roles.Ghost) (values : ℕ → List Sector) → n < nodes_of (sizes old.core) → q < pages_of (sizes old.core) → old.legs.told l ≡ true → ((c : ℕ) → set c ≡ true → c < chunks_of (sizes old.core))
-      → Ways w (here core (record { super = A.super; bit = with_page A.bit n q l set; stored = A.stored; ghost = gh; values = values }))
+  page_there : (n q l : ℕ) (set : ℕ → Bool) (w : Part) (core : Core) (gh : roles.Ghost) (values : Traced) → n < nodes_of (sizes old.core) → q < pages_of (sizes old.core) → old.legs.told l ≡ true → ((c : ℕ) → set c ≡ true → c < chunks_of (sizes old.core))
+      → Ways w (here core (record { super = A.super; bit = with_page A.bit n q l set; stored = A.stored; ghost = gh; values = values.values; broken = values.broken; since = values.since }))
       → Ways w (here core (around old.core (put old.legs l (page_sector (sizes old.core) n q) (page_sector_of old.core q set)) gh values))
   page_there n q l set w core gh values lt page tell fits xs =
       let at = page_sector (sizes old.core) n q in
@@ -86,8 +85,8 @@ module _ (old : State) (g : roles.Ghost) (vs : ℕ → List Sector) (p : Place o
       xs
 
   -- a data sector that was put there
-  data_there : (l s : ℕ) (v : Sector) (w : Part) (core : Core) (gh : roles.Ghost) (values : ℕ → List Sector) → old.legs.told l ≡ true
-      → Ways w (here core (record { super = A.super; bit = A.bit; stored = with_data A.stored l s v; ghost = gh; values = values }))
+  data_there : (l s : ℕ) (v : Sector) (w : Part) (core : Core) (gh : roles.Ghost) (values : Traced) → old.legs.told l ≡ true
+      → Ways w (here core (record { super = A.super; bit = A.bit; stored = with_data A.stored l s v; ghost = gh; values = values.values; broken = values.broken; since = values.since }))
       → Ways w (here core (around old.core (put old.legs l (place_of old.core s) v) gh values))
   data_there l s v w core gh values tell xs =
       let at = place_of old.core s in
@@ -129,16 +128,23 @@ module _ (old : State) (g : roles.Ghost) (vs : ℕ → List Sector) (p : Place o
   abbrev out_to : ℕ → ℕ → LiveWrite → Transfer
   out_to n l x = writes_to n l (place_of old.core x.sector) x.value
 
-  -- the values where the write is tried
-  tried_so : (n k l : ℕ) (t : Tries old.core A p n k l) (o : Outcome) (w : Part) (core : Core) (around_of : (ℕ → List Sector) → Around) → Ways w (here core (around_of (tried_values vs t.write))) → Ways w (here core (around_of (values_step (events.Out n k l) o (flying old.core.writes) vs)))
-  tried_so n k l t o w core around_of xs = subst (λ (y : Option PlainWrite). Ways w (here core (around_of (λ s. with_start y s (vs s))))) (sym (ap plain_of t.found)) xs
+  -- what the entries tell where the write is tried
+  abbrev tried_out : ℕ → Option PlainWrite → Outcome → Traced
+  tried_out n y o = record { values = λ s. with_start y s (vs.values s); broken = λ m s. tried_by n y o vs.broken m s; since = vs.since }
+
+  abbrev tried_at : ℕ → LiveWrite → Outcome → Traced
+  tried_at n x o = tried_out n (plain_of (Some x)) o
+
+  tried_so : (n k l : ℕ) (t : Tries old.core A p n k l) (o : Outcome) (w : Part) (core : Core) (around_of : Traced → Around) → Ways w (here core (around_of (tried_at n t.write o))) → Ways w (here core (around_of (traced (events.Out n k l) o (flying old.core.writes) vs)))
+  tried_so n k l t o w core around_of xs = subst (λ (y : Option PlainWrite). Ways w (here core (around_of (tried_out n y o)))) (sym (ap plain_of t.found)) xs
 
   out_failed_ways : (n k l : ℕ) (lost : Bool) (t : Tries old.core A p n k l) → transfer_of old.core (events.Out n k l) ≡ Some (out_to n l t.write)
-      → Ways (here old.core A) (here (after old.core (events.Out n k l) (lost_or_io old.core (out_to n l t.write))) (record A { stored = with_data_if lost A.stored l t.write.sector t.write.value; values = tried_values vs t.write }))
+      → Ways (here old.core A) (here (after old.core (events.Out n k l) (lost_or_io old.core (out_to n l t.write)))
+      (record { super = A.super; bit = A.bit; stored = with_data_if lost A.stored l t.write.sector t.write.value; ghost = g; values = (tried_at n t.write (lost_or_io old.core (out_to n l t.write))).values; broken = (tried_at n t.write (lost_or_io old.core (out_to n l t.write))).broken; since = vs.since }))
   out_failed_ways n k l lost t at =
       let s = sound_of old.core A p in
-      let a : Around = record A { stored = with_data_if lost A.stored l t.write.sector t.write.value; values = tried_values vs t.write } in
-      failed_ways (here old.core A) old.core (events.Out n k l) (out_to n l t.write) a at
+      let a : Around = record A { stored = with_data_if lost A.stored l t.write.sector t.write.value; values = tried_values vs.values t.write } in
+      failed_by (here old.core A) old.core (events.Out n k l) (out_to n l t.write) (λ o. record a { broken = (tried_at n t.write o).broken }) at
       (one s (missed_way old.core A p n k l t lost))
       (try_sound (here old.core A) n k l t.write a.stored a.values s t.trying)
       (up_in n t.trying.up)
@@ -147,17 +153,17 @@ module _ (old : State) (g : roles.Ghost) (vs : ℕ → List Sector) (p : Place o
   out_from : (n k l : ℕ) (t : Tries old.core A p n k l) (o : Outcome) (new : Legs) → transfer_of old.core (events.Out n k l) ≡ Some (out_to n l t.write) → Puts old (events.Out n k l) (out_to n l t.write) t.write.value o new → Goal (events.Out n k l) o new
   out_from n k l t o new at (well is legs) =
       moved old g vs (events.Out n k l) (here old.core A) o outcomes.Done new _ is legs
-      (tried_so n k l t outcomes.Done (here old.core A) (out_done old.core n k l) (λ values. around old.core (put old.legs l (place_of old.core t.write.sector) t.write.value) g values)
-      (data_there l t.write.sector t.write.value (here old.core A) (out_done old.core n k l) g (tried_values vs t.write) (told l t.trying.leg)
+      (tried_so n k l t outcomes.Done (here old.core A) (out_done old.core n k l) (around old.core (put old.legs l (place_of old.core t.write.sector) t.write.value) g)
+      (data_there l t.write.sector t.write.value (here old.core A) (out_done old.core n k l) g (tried_at n t.write outcomes.Done) (told l t.trying.leg)
       (one (sound_of old.core A p) (out_way old.core A p n k l t))))
   out_from n k l t o new at (ill is legs) =
       moved old g vs (events.Out n k l) (here old.core A) o (lost_or_io old.core (out_to n l t.write)) new old.legs is legs
-      (tried_so n k l t (lost_or_io old.core (out_to n l t.write)) (here old.core A) (after old.core (events.Out n k l) (lost_or_io old.core (out_to n l t.write))) (λ values. around old.core old.legs g values)
+      (tried_so n k l t (lost_or_io old.core (out_to n l t.write)) (here old.core A) (after old.core (events.Out n k l) (lost_or_io old.core (out_to n l t.write))) (around old.core old.legs g)
       (out_failed_ways n k l false t at))
   out_from n k l t o new at (left is legs) =
       moved old g vs (events.Out n k l) (here old.core A) o (lost_or_io old.core (out_to n l t.write)) new _ is legs
-      (tried_so n k l t (lost_or_io old.core (out_to n l t.write)) (here old.core A) (after old.core (events.Out n k l) (lost_or_io old.core (out_to n l t.write))) (λ values. around old.core (put old.legs l (place_of old.core t.write.sector) t.write.value) g values)
-      (data_there l t.write.sector t.write.value (here old.core A) (after old.core (events.Out n k l) (lost_or_io old.core (out_to n l t.write))) g (tried_values vs t.write) (told l t.trying.leg)
+      (tried_so n k l t (lost_or_io old.core (out_to n l t.write)) (here old.core A) (after old.core (events.Out n k l) (lost_or_io old.core (out_to n l t.write))) (around old.core (put old.legs l (place_of old.core t.write.sector) t.write.value) g)
+      (data_there l t.write.sector t.write.value (here old.core A) (after old.core (events.Out n k l) (lost_or_io old.core (out_to n l t.write))) g (tried_at n t.write (lost_or_io old.core (out_to n l t.write))) (told l t.trying.leg)
       (out_failed_ways n k l true t at)))
 
   pub out_step : (n k l : ℕ) (o : Outcome) (new : Legs) → refusal old.core (events.Out n k l) ≡ None → Moves old (events.Out n k l) o new → Goal (events.Out n k l) o new

@@ -1,1 +1,2 @@
--- Nothing is stated here: the ways lie in proofs/.
+pub mod Broken
+pub mod Since
