@@ -40,6 +40,9 @@ def named(proofs: Path) -> list[str]:
 
 
 def keep(proofs: Path, files: list[str]) -> None:
+    for file in proofs.glob("*.antt"):
+        if file.stem not in files:
+            file.unlink()
     (proofs / "Lib.antt").write_text("".join(f"pub mod {f}\n" for f in files))
 
 

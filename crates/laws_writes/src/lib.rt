@@ -3,7 +3,8 @@
 //! contents, from an opening whose intents are marked.
 #![tactic(auto)]
 
-ghost use Rattle.laws_writes.specs.Laws.{RunsCopyAlone, RunsHoldBits, RunsHoldWindows};
+ghost use Rattle.laws_writes.specs.Laws.{RunsCopyAlone, RunsCopyFreely, RunsHoldBits};
+ghost use Rattle.laws_writes.specs.Laws.{RunsHoldWindows};
 ghost use Rattle.laws_writes.specs.Laws.{RunsHoldWrites, RunsKeepTheIntent, RunsWriteLegally};
 
 /// At each place of each run, of each sector with two candidates: one slot of a node that is live,
@@ -40,4 +41,10 @@ pub fn runs_copy_alone()
 /// while it is live.
 pub fn runs_write_legally()
     ensures { RunsWriteLegally }
+{}
+
+/// At each place of each run the sector that is copied lies in the window that its node has open,
+/// and no write in flight is of it.
+pub fn runs_copy_freely()
+    ensures { RunsCopyFreely }
 {}

@@ -25,7 +25,8 @@ use Rattle.storage_ways.proofs.Place.{Around, here, Place, sound_of}
 use Rattle.storage_ways.proofs.Moving.{Traced, around, next, quiet_of, quiet_well, done_when, moved}
 use Rattle.storage_ways.proofs.BitmapRows.{clear_way}
 use Rattle.storage_ways.proofs.ComingRows.{join_way, up_way}
-use Rattle.storage_ways.proofs.CopyRows.{resync_way, end_pass_way, own_way, full_way, again_way, settle_way, settled}
+use Rattle.storage_ways.proofs.CopyRows.{resync_way, end_pass_way, own_way, full_way, again_way}
+use Rattle.storage_ways.proofs.SectorRows.{settle_way, settled}
 use Rattle.storage_ways.proofs.FinishRows.{finish_way}
 use Rattle.storage_ways.proofs.GoingRows.{leave_way, die_way, quit_way}
 use Rattle.storage_ways.proofs.GrantRows.{granted_way, token_way, message_asked_way}

@@ -32,7 +32,7 @@ use Rattle.storage_ways.proofs.Place.{Around, here, Place, sound_of}
 use Rattle.storage_ways.proofs.Sound.{Sound}
 use Rattle.storage_ways.proofs.Between.{copy_sound, try_sound, page_sound}
 use Rattle.storage_ways.proofs.BitmapRows.{page_to, page_way, missed_page_way}
-use Rattle.storage_ways.proofs.CopyRows.{Copied, to_copy, copy_way, missed_copy_way}
+use Rattle.storage_ways.proofs.SectorRows.{Copied, to_copy, copy_way, missed_copy_way}
 use Rattle.storage_ways.proofs.Failing.{failed_by, failed_ways}
 use Rattle.storage_ways.proofs.Guarding.{up_node}
 use Rattle.storage_ways.proofs.Moving.{Traced, traced, around, next, Puts, well, ill, left, puts_of, moved, standing_so}

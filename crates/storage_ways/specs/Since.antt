@@ -1,4 +1,5 @@
--- By node and sector: the sector was settled, by whichever node, since the node began to recover last.
+-- By node and sector: the sector was settled, by whichever node, since the node began to recover
+-- last.
 use Rattle.std.specs.Prelude.{ℕ, ◌==◌, Bool, true, false, if◌then◌else◌, List, [], ◌∷◌}
 use Rattle.mdc_types.specs.declared.events.Event.{Event}
 use Rattle.mdc_types.specs.declared.events.Event.TheVariants.{Settle, Recover}
