@@ -11,3 +11,6 @@ pub mod WorkSteps
 pub mod MovedSteps
 pub mod MovedMarks
 pub mod Step
+pub mod Line
+pub mod FirstPending
+pub mod Runs

@@ -41,7 +41,7 @@ moved_found here found old e t f = grind arith
 moved_old : (here found old : Bool) → (if here && found then true else old) ≡ false → old ≡ false
 moved_old here found old e = grind arith
 
-below_sixteen : (x : NodeState) (n : ℕ) → (is_out x ≡ false → n < 16) → is_up x ≡ true → n < 16
+pub below_sixteen : (x : NodeState) (n : ℕ) → (is_out x ≡ false → n < 16) → is_up x ≡ true → n < 16
 below_sixteen x n f up = f (up_out x up)
   where
     up_out : (y : NodeState) → is_up y ≡ true → is_out y ≡ false
