@@ -14,3 +14,5 @@ pub mod Step
 pub mod Line
 pub mod FirstPending
 pub mod Runs
+pub mod Opened
+pub mod Reflect
