@@ -16,3 +16,5 @@ pub mod FirstPending
 pub mod Runs
 pub mod Opened
 pub mod Reflect
+pub mod KeptRecoveries
+pub mod Tracing
