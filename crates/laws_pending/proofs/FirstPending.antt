@@ -1,13 +1,9 @@
 -- At an opening a pending slot owes what it marks, has no heir, and nothing of it was moved.
-use Rattle.std.proofs.Common.{◌≡◌, ◌⊎◌, inl, inr, ℕ, ◌+◌, ◌==◌, ◌<◌, ◌≤◌, ◌&&◌, ◌||◌, not, if◌then◌else◌, Bool, true, false, Option, Some, None, refl, sym, ap, subst, ◌∙◌, arith}
+use Rattle.std.proofs.Common.{◌≡◌, inl, inr, ℕ, ◌<◌, ◌≤◌, false, Option, None, sym, ap, subst, arith}
 use Rattle.std.proofs.lemmas.Bool.{cases_lt}
-use Rattle.std.proofs.lemmas.Bool.Decides.{nat_tests}
-use Rattle.mdc_types.specs.Bits.{has_bit}
-use Rattle.mdc_types.specs.Geometry.{nodes_of}
 use Rattle.mdc_types.specs.Roles.{is_working}
 use Rattle.md_superblock.specs.Arrays.{Says}
 use Rattle.leg_failure.specs.Views.{works}
-use Rattle.cluster_model.specs.Guards.{is_out}
 use Rattle.cluster_model.specs.Phases.{is_up}
 use Rattle.cluster_model.specs.State.{State}
 use Rattle.cluster_model.specs.Contents.{SoundOpening}
@@ -20,12 +16,10 @@ use Rattle.storage_ways.proofs.Sound.{Sound}
 use Rattle.laws_writes.proofs.First.{First}
 use Rattle.laws_writes.proofs.FirstKeepers.{first_ghost}
 use Rattle.laws_recovery.proofs.FirstStale.{first_since}
-use Rattle.laws_pending.proofs.Found.{up_settled}
-use Rattle.laws_pending.proofs.Ghosts.{Pend, serves, calls, marks_trusted, marks_good}
+use Rattle.laws_pending.proofs.Ghosts.{Pend, marks_trusted, marks_good}
 use Rattle.laws_pending.proofs.Gone.{marked_served, marked_called, marked_good}
 use Rattle.laws_pending.proofs.MarkSteps.{below_sixteen}
 use Rattle.laws_pending.proofs.Pending.{Pendings, SuperLeg}
-use Rattle.laws_pending.proofs.Points.{clash}
 use Rattle.laws_pending.proofs.Trust.{left, true_le}
 
 -- the ghosts of a part where slots are pending that no node of the run left

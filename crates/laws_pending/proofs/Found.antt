@@ -1,6 +1,5 @@
 -- What a recovery has read and found, and that its node is up and no other recovers.
-use Rattle.std.proofs.Common.{◌≡◌, ℕ, ◌==◌, ◌<◌, ◌||◌, not, Bool, true, false, Option, Some, None, refl, sym, ap, subst, ◌∙◌, arith}
-use Rattle.std.specs.Prelude.{is_some}
+use Rattle.std.proofs.Common.{◌≡◌, ℕ, not, Bool, true, false, Option, Some, None, refl, sym, ap, ◌∙◌, arith}
 use Rattle.std.proofs.lemmas.Bool.Decides.{nat_tests}
 use Rattle.mdc_types.specs.Geometry.{page_of}
 use Rattle.mdc_types.specs.declared.roles.NodeState.{NodeState}
@@ -9,9 +8,9 @@ use Rattle.leg_failure.specs.Views.{works}
 use Rattle.node_recovery.specs.Progress.{Recovering}
 use Rattle.cluster_model.specs.Guards.{is_out}
 use Rattle.cluster_model.specs.Phases.{is_in, is_up}
-use Rattle.storage_ways.proofs.Parts.{Part, chunk_in, read_leg, recovers, found_in, read_in, cleared_in, is_heir}
-use Rattle.storage_ways.proofs.Roled.{read_good, good_target}
-use Rattle.storage_ways.proofs.Ways.{AllRead, SlotClears, EndsRecovery}
+use Rattle.storage_ways.proofs.Parts.{Part, read_leg, recovers, found_in, read_in, is_heir}
+use Rattle.storage_ways.proofs.Roled.{read_good}
+use Rattle.storage_ways.proofs.Ways.{AllRead}
 use Rattle.laws_writes.proofs.Ghosts.{Ghost}
 use Rattle.laws_writes.proofs.Places.{page_lt}
 use Rattle.laws_writes.proofs.Recoverers.{turn_held}

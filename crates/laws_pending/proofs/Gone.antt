@@ -1,14 +1,10 @@
 -- What a recovery didn't find isn't marked any more as slots that are pending have to.
-use Rattle.std.proofs.Common.{◌≡◌, ℕ, ◌+◌, ◌==◌, ◌<◌, ◌≤◌, ◌&&◌, ◌||◌, not, Bool, true, false, if◌then◌else◌, Option, Some, None, refl, sym, ap, subst, ◌∙◌, arith, nat_le}
-use Rattle.std.specs.Prelude.{is_some}
-use Rattle.std.proofs.lemmas.Bool.Decides.{nat_tests}
+use Rattle.std.proofs.Common.{◌≡◌, ℕ, ◌+◌, ◌==◌, ◌<◌, ◌||◌, not, Bool, true, false, if◌then◌else◌, refl, sym, ap, subst, ◌∙◌, arith, nat_le}
 use Rattle.mdc_types.specs.Geometry.{Sizes, chunks_of, pages_of}
-use Rattle.mdc_types.specs.Roles.{is_working}
 use Rattle.leg_failure.specs.Views.{works}
 use Rattle.node_recovery.specs.Progress.{Recovering}
 use Rattle.cluster_model.specs.Phases.{is_up}
-use Rattle.laws_roles.proofs.Parts.{promotes, wished}
-use Rattle.storage_ways.proofs.Parts.{Part, read_leg, read_in, recovers, found_in, with_page_if}
+use Rattle.storage_ways.proofs.Parts.{Part, read_leg, read_in}
 use Rattle.storage_ways.proofs.Roled.{acked_works}
 use Rattle.storage_ways.proofs.Ways.{AllRead}
 use Rattle.laws_writes.proofs.Ghosts.{Ghost}
@@ -58,9 +54,9 @@ module _ (w : Part) (g : Ghost) (z : Since) (p : Pend) (a : Known w g z p) where
         let from = reads_from w g z p a n r x in
         by_test (p.promoted r.slot (read_leg w n))
         (λ t.
-            let agreed = sym (acked_works w a.sound n (read_leg w n) x.opened.up x.acked) ∙ from in
-            let works_there = acked_works w a.sound n l x.opened.up x.acked ∙ a.pendings.solo r.slot (read_leg w n) l x.opened.pending t agreed good in
-            owed_found c l owed stays works_there other)
+        let agreed = sym (acked_works w a.sound n (read_leg w n) x.opened.up x.acked) ∙ from in
+        let works_there = acked_works w a.sound n l x.opened.up x.acked ∙ a.pendings.solo r.slot (read_leg w n) l x.opened.pending t agreed good in
+        owed_found c l owed stays works_there other)
         (λ f. owed_found c (read_leg w n) owed stays from f)
 
   pub apart_up : (n d : ℕ) → is_up (w.state n) ≡ true → w.pending d ≡ true → (d == n) ≡ false

@@ -1,16 +1,15 @@
 -- Each way keeps the line of heirs, and what was settled along it.
-use Rattle.std.proofs.Common.{◌≡◌, ℕ, ◌+◌, ◌==◌, ◌<◌, ◌≤◌, ◌&&◌, ◌||◌, not, Bool, true, false, if◌then◌else◌, Option, Some, None, refl, sym, ap, subst, ◌∙◌, arith}
-use Rattle.std.specs.Prelude.{is_some}
+use Rattle.std.proofs.Common.{◌≡◌, ℕ, ◌<◌, ◌≤◌, Bool, true, Option, Some, None, refl, sym, ap, subst, ◌∙◌, arith}
 use Rattle.std.proofs.lemmas.Bool.Decides.{nat_tests}
 use Rattle.dlm_modes.specs.Points.{with_at}
 use Rattle.laws_roles.proofs.Parts.{number}
-use Rattle.node_recovery.specs.Progress.{Recovering, begun, with_cleared, with_found, with_read}
-use Rattle.storage_ways.proofs.Parts.{Part, recovers, read_in, is_heir}
+use Rattle.node_recovery.specs.Progress.{Recovering, with_read}
+use Rattle.storage_ways.proofs.Parts.{Part, read_in}
 use Rattle.storage_ways.proofs.Ways as ways
 use Rattle.storage_ways.proofs.Ways.{Way}
-use Rattle.laws_writes.proofs.Ghosts.{Ghost, ghost_after, undecided}
+use Rattle.laws_writes.proofs.Ghosts.{Ghost, ghost_after}
 use Rattle.laws_writes.proofs.Settled.{Since, since_after}
-use Rattle.laws_pending.proofs.Found.{up_settled, live_settled, heir_there, heir_is}
+use Rattle.laws_pending.proofs.Found.{up_settled, live_settled, heir_there}
 use Rattle.laws_pending.proofs.Ghosts.{Pend, pend_after}
 use Rattle.laws_pending.proofs.Known.{Known}
 use Rattle.laws_pending.proofs.Pending.{ReadLeg, SuperLeg, BornNow, Line, SinceLine, WasHeir, SinceYoung}

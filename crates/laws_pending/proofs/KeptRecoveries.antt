@@ -9,8 +9,6 @@ use Rattle.mdc_types.specs.declared.outcomes.Outcome.TheVariants as outcomes
 use Rattle.mdc_types.specs.declared.numbers.Sector.{Sector}
 use Rattle.mdc_types.specs.declared.resources.Res.{Res}
 use Rattle.mdc_types.specs.declared.resources.Res.TheVariants as resources
-use Rattle.mdc_types.specs.declared.roles.NodeState.{NodeState}
-use Rattle.mdc_types.specs.declared.roles.NodeState.TheVariants as states
 use Rattle.dlm_modes.specs.declared.mode.Mode.{Mode}
 use Rattle.dlm_modes.specs.declared.mode.Mode.TheVariants.{PR}
 use Rattle.dlm_space.specs.Locks.{Lock}
@@ -29,14 +27,12 @@ use Rattle.leg_failure.specs.Views.{acknowledged}
 use Rattle.cluster_model.specs.Changes.{voided, sender_now, headed, device_unlocked}
 use Rattle.cluster_model.specs.Copying.{filled_with, settle_buffer, next_sector, buffer_of, buffer_sector, copied_in}
 use Rattle.cluster_model.specs.Failures.{tried, request_failed, slot_failed}
-use Rattle.cluster_model.specs.Finishing.{finish_offer, finish_wish, round_over}
 use Rattle.cluster_model.specs.Gathering.{page_gathered, due_page, gather}
 use Rattle.cluster_model.specs.Granting.{grant_to, goes_on, message_held, asker}
 use Rattle.cluster_model.specs.Processing.{do_message, do_body}
 use Rattle.cluster_model.specs.Publishing.{publish_offer, publish_wish, block_of}
 use Rattle.msg_rounds.specs.Locks.{published}
 use Rattle.cluster_model.specs.Receiving.{view_resumed, told_state}
-use Rattle.cluster_model.specs.Recovering.{page_found, page_cleared, slot_recovered, slot_read, recover}
 use Rattle.cluster_model.specs.Reads.{end_read, in_done, read_sector}
 use Rattle.mirror_io.specs.Flight.{read_in, write_in}
 use Rattle.cluster_model.specs.Writes.{write_ended, write_sector}
@@ -84,9 +80,6 @@ publish_kept : (core : Core) (n : ℕ) (x : Option Offer) → Kept core (publish
 publish_kept core n None = refl
 publish_kept core n (Some o) = published_kept core n (device_unlocked (published core.locks n (block_of core n o)) n) o.wish
 
-
-
-
 body_kept : (core : Core) (n m : ℕ) (b : Body) → Kept core (do_body core n m b)
 body_kept core n m (bodies.Metadata events roles size) = refl
 body_kept core n m (bodies.Capacity events roles size) = refl
@@ -120,9 +113,6 @@ fill_kept core n (Some s) l v = refl
 settle_kept : (core : Core) (n : ℕ) (x : Option Buffer) → Kept core (settle_buffer core n x)
 settle_kept core n None = refl
 settle_kept core n (Some b) = refl
-
-
-
 
 slot_kept : (core : Core) (p l : ℕ) (x : Option Recovering) → Kept core (slot_failed core p l x)
 slot_kept core p l None = refl

@@ -1,7 +1,6 @@
 -- What a recovery moved from a pending slot, and what is equal where its recovery ends.
-use Rattle.std.proofs.Common.{◌≡◌, ◌⊎◌, inl, inr, ℕ, zero, suc, ◌+◌, ◌-◌, ◌==◌, ◌<◌, ◌≤◌, ◌&&◌, ◌||◌, not, Bool, true, false, List, [], ◌∷◌, Option, Some, None, refl, sym, ap, subst, ◌∙◌, arith}
+use Rattle.std.proofs.Common.{◌≡◌, ◌⊎◌, inl, inr, ℕ, zero, suc, ◌+◌, ◌<◌, ◌||◌, Bool, true, false, List, [], ◌∷◌, Option, Some, None, refl, sym, ap, ◌∙◌, arith}
 use Rattle.std.specs.Prelude.{is_some}
-use Rattle.std.proofs.lemmas.Bool.Decides.{nat_tests}
 use Rattle.mdc_types.specs.declared.numbers.Sector.{Sector}
 use Rattle.node_recovery.specs.Progress.{Recovering}
 use Rattle.leg_failure.specs.Views.{works}
@@ -100,7 +99,7 @@ module _ (w : Part) (g : Ghost) (z : Since) (p : Pend) (a : Known w g z p) where
         found : p.promoted r.slot l ≡ false → r.found (chunk_in w s) ≡ true
         found f = by_test (p.moved r.slot (chunk_in w s))
             (λ t. sym (ap (λ y. found_in y (chunk_in w s)) rec)
-                ∙ a.pendings.moved_kept r.slot n s x.all.opened.pending lt t unsettled (heir_there w g z p a n r rec) (up_settled w g z p a n x.all.opened.up))
+            ∙ a.pendings.moved_kept r.slot n s x.all.opened.pending lt t unsettled (heir_there w g z p a n r rec) (up_settled w g z p a n x.all.opened.up))
             (λ stays. owed_found w g z p a n r x.all (chunk_in w s) l owed stays works_there f)
 
     -- all legs that the node reads from are equal at each sector of a chunk that was found or owed,

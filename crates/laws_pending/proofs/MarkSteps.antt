@@ -1,10 +1,8 @@
 -- Each way keeps the marks of a pending slot: those that stood on all good legs, and those that stood
 -- on all trusted ones.
-use Rattle.std.proofs.Common.{◌≡◌, ℕ, ◌==◌, ◌<◌, ◌≤◌, ◌&&◌, ◌||◌, not, Bool, true, false, if◌then◌else◌, Option, Some, None, refl, sym, ap, subst, ◌∙◌, arith}
-use Rattle.std.specs.Prelude.{is_some}
+use Rattle.std.proofs.Common.{◌≡◌, ℕ, ◌==◌, ◌<◌, ◌&&◌, ◌||◌, Bool, true, false, if◌then◌else◌, refl, sym, ap, subst, ◌∙◌, arith}
 use Rattle.std.proofs.lemmas.Bool.Decides.{nat_tests}
 use Rattle.dlm_modes.specs.Points.{with_at}
-use Rattle.mdc_types.specs.Geometry.{page_of}
 use Rattle.mdc_types.specs.Roles.{is_working}
 use Rattle.mdc_types.specs.declared.roles.NodeState.{NodeState}
 use Rattle.mdc_types.specs.declared.roles.NodeState.TheVariants as states
@@ -19,7 +17,7 @@ use Rattle.storage_ways.proofs.Ways as ways
 use Rattle.storage_ways.proofs.Ways.{Way, AllRead, Whole, Offering}
 use Rattle.laws_writes.proofs.Ghosts.{Ghost}
 use Rattle.laws_writes.proofs.Settled.{Since}
-use Rattle.laws_pending.proofs.Ghosts.{Pend, pend_after, serves, calls, marks_trusted, marks_good, is_promoted}
+use Rattle.laws_pending.proofs.Ghosts.{Pend, pend_after, marks_trusted, marks_good, is_promoted}
 use Rattle.laws_pending.proofs.Gone.{owed_there, was_good, full_found, owed_gone, apart_up, marked_served, marked_called, marked_good}
 use Rattle.laws_pending.proofs.Known.{Known}
 use Rattle.laws_pending.proofs.Pending.{Full, OwedServed, OwedCalled}
@@ -113,14 +111,14 @@ owed_served w v (ways.quits n x) g z p a d c l m pend owed stays e lt other = ow
 owed_served w v (ways.parts n o x) g z p a d c l m pend owed stays e lt other = by_test (d == n)
     (λ t. subst (λ k. v.bit k c l ≡ true) (sym (same_point d n t)) (marked_served v n c l m (if_true (d == n) (marks_trusted v n c) (p.owed d c) t owed) lt (node_below n m l x.going.node e) e))
     (λ f. owed_there w g z p a d c l (if_false (d == n) true (w.pending d) true f pend) (if_false (d == n) (marks_trusted v n c) (p.owed d c) true f owed) (if_false (d == n) false (p.moved d c) false f stays) lt
-        (if_false (d == n) (is_promoted v l) (p.promoted d l) false f other) (serves_before w v (ways.parts n o x) a.sound m l lt e))
+    (if_false (d == n) (is_promoted v l) (p.promoted d l) false f other) (serves_before w v (ways.parts n o x) a.sound m l lt e))
   where
     node_below : (n m l : ℕ) → n < 16 → (is_up (with_at w.state n states.Out m) && works (v.view m) l) ≡ true → m < 16
     node_below n m l lt e = by_test (m == n) (λ t. subst (λ j. j < 16) (sym (same_point m n t)) lt) (λ f. below_sixteen (w.state m) m (a.sound.phases.below m) (grind arith))
 owed_served w v (ways.dies n told x) g z p a d c l m pend owed stays e lt other = by_test (d == n)
     (λ t. subst (λ k. v.bit k c l ≡ true) (sym (same_point d n t)) (marked_served v n c l m (if_true (d == n) (marks_trusted v n c) (p.owed d c) t owed) lt (node_below n m l x.node e) e))
     (λ f. owed_there w g z p a d c l (if_false (d == n) true (w.pending d) true f pend) (if_false (d == n) (marks_trusted v n c) (p.owed d c) true f owed) (if_false (d == n) false (p.moved d c) false f stays) lt
-        (if_false (d == n) (is_promoted v l) (p.promoted d l) false f other) (serves_before w v (ways.dies n told x) a.sound m l lt e))
+    (if_false (d == n) (is_promoted v l) (p.promoted d l) false f other) (serves_before w v (ways.dies n told x) a.sound m l lt e))
   where
     node_below : (n m l : ℕ) → n < 16 → (is_up (with_at w.state n states.Out m) && works (v.view m) l) ≡ true → m < 16
     node_below n m l lt e = by_test (m == n) (λ t. subst (λ j. j < 16) (sym (same_point m n t)) lt) (λ f. below_sixteen (w.state m) m (a.sound.phases.below m) (grind arith))
@@ -143,11 +141,11 @@ owed_called w v (ways.quits n x) g z p a d c l k pend owed stays e lt other = a.
 owed_called w v (ways.parts n o x) g z p a d c l k pend owed stays e lt other = by_test (d == n)
     (λ t. subst (λ j. v.bit j c l ≡ true) (sym (same_point d n t)) (marked_called v n c l k (if_true (d == n) (marks_trusted v n c) (p.owed d c) t owed) lt (a.pendings.super_leg k (true_le w.completed (number (w.super k)) (left _ (is_working (said_role (w.super k) l)) e))) e))
     (λ f. a.pendings.owed_called d c l k (if_false (d == n) true (w.pending d) true f pend) (if_false (d == n) (marks_trusted v n c) (p.owed d c) true f owed) (if_false (d == n) false (p.moved d c) false f stays) e lt
-        (if_false (d == n) (is_promoted v l) (p.promoted d l) false f other))
+    (if_false (d == n) (is_promoted v l) (p.promoted d l) false f other))
 owed_called w v (ways.dies n told x) g z p a d c l k pend owed stays e lt other = by_test (d == n)
     (λ t. subst (λ j. v.bit j c l ≡ true) (sym (same_point d n t)) (marked_called v n c l k (if_true (d == n) (marks_trusted v n c) (p.owed d c) t owed) lt (a.pendings.super_leg k (true_le w.completed (number (w.super k)) (left _ (is_working (said_role (w.super k) l)) e))) e))
     (λ f. a.pendings.owed_called d c l k (if_false (d == n) true (w.pending d) true f pend) (if_false (d == n) (marks_trusted v n c) (p.owed d c) true f owed) (if_false (d == n) false (p.moved d c) false f stays) e lt
-        (if_false (d == n) (is_promoted v l) (p.promoted d l) false f other))
+    (if_false (d == n) (is_promoted v l) (p.promoted d l) false f other))
 owed_called w v (ways.marks n q i x) g z p a d c l k pend owed stays e lt other = page_else w.bit true n q i (w.bitmap n).set d c l (apart_up w g z p a n d x.up pend) (a.pendings.owed_called d c l k pend owed stays e lt other)
 owed_called w v (ways.misses_page n q i some x) g z p a d c l k pend owed stays e lt other = page_else w.bit some n q i (w.bitmap n).set d c l (apart_up w g z p a n d x.up pend) (a.pendings.owed_called d c l k pend owed stays e lt other)
 owed_called w v (ways.slot_clears n q i r x) g z p a d c l k pend owed stays e lt other = owed_cleared w g z p a n q i r true x.all d c l pend owed stays (says k e) lt other

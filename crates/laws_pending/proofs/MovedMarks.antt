@@ -1,10 +1,9 @@
 -- Each way keeps the marks of what a recovery moved from a pending slot.
-use Rattle.std.proofs.Common.{◌≡◌, ℕ, ◌==◌, ◌<◌, ◌&&◌, ◌||◌, not, Bool, true, false, if◌then◌else◌, Option, Some, None, refl, sym, ap, subst, ◌∙◌, arith}
+use Rattle.std.proofs.Common.{◌≡◌, ℕ, ◌==◌, ◌<◌, ◌&&◌, ◌||◌, Bool, true, false, if◌then◌else◌, Option, Some, None, refl, sym, ap, subst, ◌∙◌, arith}
 use Rattle.std.specs.Prelude.{is_some}
 use Rattle.std.proofs.lemmas.Bool.Decides.{nat_tests}
 use Rattle.dlm_modes.specs.Points.{with_at}
-use Rattle.mdc_types.specs.Geometry.{page_of}
-use Rattle.node_recovery.specs.Progress.{Recovering, begun, with_cleared, with_found, with_read}
+use Rattle.node_recovery.specs.Progress.{Recovering, begun}
 use Rattle.storage_ways.proofs.Parts.{Part, chunk_in, recovers, found_in, with_page_if}
 use Rattle.storage_ways.proofs.Ways as ways
 use Rattle.storage_ways.proofs.Ways.{Way, SlotClears, EndsRecovery, AllRead}
@@ -15,7 +14,7 @@ use Rattle.laws_pending.proofs.Ghosts.{Pend, pend_after, marks_good}
 use Rattle.laws_pending.proofs.Gone.{good_marked}
 use Rattle.laws_pending.proofs.Known.{Known}
 use Rattle.laws_pending.proofs.MarkSteps.{page_else, offered_good, wish_good}
-use Rattle.laws_pending.proofs.MovedSteps.{Moved, heir_needs, none_moved, line_ends, found_marked, same_heir, heir_else, heir_ends, gone_moved, died_moved, begun_moved, moved_or, settled_else, if_false, not_died}
+use Rattle.laws_pending.proofs.MovedSteps.{Moved, heir_needs, none_moved, found_marked, same_heir, heir_else, heir_ends, gone_moved, died_moved, begun_moved, moved_or, settled_else, if_false, not_died}
 use Rattle.laws_pending.proofs.Pending.{MovedKept, MovedBit, MovedHeir, MovedFull}
 use Rattle.laws_pending.proofs.Points.{at_point, clash, same_point, apart_sym, by_test}
 
@@ -59,9 +58,9 @@ module _ (w : Part) (g : Ghost) (z : Since) (p : Pend) (a : Known w g z p) where
   ended_apart : (n d h s : ℕ) (r : Recovering) → EndsRecovery w n r → Moved w z p d s → w.heir d ≡ Some h → w.pending h ≡ false → (d == r.slot) ≡ false → (h == n) ≡ false
   ended_apart n d h s r x m heir settled apart = by_test (h == n)
       (λ t.
-          let was = a.pendings.moved_found d h s m.pending m.within m.moved m.unsettled heir settled in
-          let same : (r.slot == d) ≡ true = sym (ap (λ y. recovers y d) (ap (λ j. w.recovery j) (same_point h n t) ∙ x.all.opened.recovery)) ∙ was in
-          absurd (clash (r.slot == d) same (apart_sym d r.slot apart)))
+      let was = a.pendings.moved_found d h s m.pending m.within m.moved m.unsettled heir settled in
+      let same : (r.slot == d) ≡ true = sym (ap (λ y. recovers y d) (ap (λ j. w.recovery j) (same_point h n t) ∙ x.all.opened.recovery)) ∙ was in
+      absurd (clash (r.slot == d) same (apart_sym d r.slot apart)))
       (λ f. f)
 
   -- the heir's page has what was moved
@@ -76,8 +75,8 @@ module _ (w : Part) (g : Ghost) (z : Since) (p : Pend) (a : Known w g z p) where
   bit_cleared n q i d h s l r some x pend lt moved new heir settled good = page_else w.bit some r.slot q i (λ c. false) h (chunk_in w s) l not_slot
       (moved_or (d == r.slot) (r.found (chunk_in w s)) (p.moved d (chunk_in w s)) moved
       (λ t found.
-          let same = same_heir w g z p a n h r x.all.opened.recovery (subst (λ k. w.heir k ≡ Some h) (same_point d r.slot t) heir) in
-          subst (λ j. w.bit j (chunk_in w s) l ≡ true) (sym same) (found_marked w g z p a n q i s l r x lt (subst (λ k. z.since k s ≡ false) (same_point d r.slot t) new) found good))
+      let same = same_heir w g z p a n h r x.all.opened.recovery (subst (λ k. w.heir k ≡ Some h) (same_point d r.slot t) heir) in
+      subst (λ j. w.bit j (chunk_in w s) l ≡ true) (sym same) (found_marked w g z p a n q i s l r x lt (subst (λ k. z.since k s ≡ false) (same_point d r.slot t) new) found good))
       (λ old. a.pendings.moved_bit d h s l pend lt old new heir settled good))
     where
       not_slot : (h == r.slot) ≡ false
@@ -88,7 +87,7 @@ module _ (w : Part) (g : Ghost) (z : Since) (p : Pend) (a : Known w g z p) where
       → (((l : ℕ) → w.ghost.good l ≡ true → w.bit n (chunk_in w s) l ≡ true) → full ≡ true) → (if h == n then full else p.full h (chunk_in w s)) ≡ true
   full_died n d h s full live m heir pend all = by_test (h == n)
       (λ t. to_true (h == n) full (p.full h (chunk_in w s)) t
-          (all (λ l good. a.pendings.moved_bit d n s l m.pending m.within m.moved m.unsettled (heir ∙ ap Some (same_point h n t)) (live_settled w g z p a n live) good)))
+      (all (λ l good. a.pendings.moved_bit d n s l m.pending m.within m.moved m.unsettled (heir ∙ ap Some (same_point h n t)) (live_settled w g z p a n live) good)))
       (λ f. to_false (h == n) full (p.full h (chunk_in w s)) f (a.pendings.moved_full d h s m.pending m.within m.moved m.unsettled heir (if_false (h == n) true (w.pending h) true f pend)))
     where
       to_true : (b x y : Bool) → b ≡ true → x ≡ true → (if b then x else y) ≡ true
@@ -120,8 +119,8 @@ moved_kept w v (ways.recovers_slot n e x) g z p a d h s pend lt moved new heir s
     by_test (d == e)
     (λ t. absurd (none_moved w g z p a n e s x (subst (λ k. Moved w z p k s) (same_point d e t) m)))
     (λ f. let old = heir_begun (w.heir d) d e n h f heir in
-        let apart = heir_else w g z p a n d h s x.recovery (up_settled w g z p a n x.up) m old in
-        found_else w.recovery n h (chunk_in w s) (Some (begun e)) apart (a.pendings.moved_kept d h s m.pending lt moved m.unsettled old settled))
+    let apart = heir_else w g z p a n d h s x.recovery (up_settled w g z p a n x.up) m old in
+    found_else w.recovery n h (chunk_in w s) (Some (begun e)) apart (a.pendings.moved_kept d h s m.pending lt moved m.unsettled old settled))
 moved_kept w v (ways.slot_reads n q i r has x) g z p a d h s pend lt moved new heir settled =
     found_kept w.recovery n h (chunk_in w s) r _ x.opened.recovery (or_more (r.found (chunk_in w s)) (has (chunk_in w s))) (a.pendings.moved_kept d h s pend lt moved new heir settled)
 moved_kept w v (ways.slot_clears n q i r x) g z p a d h s pend lt moved new heir settled = moved_or (d == r.slot) (r.found (chunk_in w s)) (p.moved d (chunk_in w s)) moved
@@ -208,11 +207,11 @@ moved_full w v (ways.recovers_slot n e x) g z p a d h s pend lt moved new heir g
     (λ f. a.pendings.moved_full d h s m.pending lt moved m.unsettled (heir_begun (w.heir d) d e n h f heir) gone)
 moved_full w v (ways.slot_clears n q i r x) g z p a d h s pend lt moved new heir gone = moved_or (d == r.slot) (r.found (chunk_in w s)) (p.moved d (chunk_in w s)) moved
     (λ t found. let same = same_heir w g z p a n h r x.all.opened.recovery (subst (λ k. w.heir k ≡ Some h) (same_point d r.slot t) heir) in
-        absurd (clash (w.pending n) (subst (λ k. w.pending k ≡ true) same gone) (up_settled w g z p a n x.all.opened.up)))
+    absurd (clash (w.pending n) (subst (λ k. w.pending k ≡ true) same gone) (up_settled w g z p a n x.all.opened.up)))
     (λ old. a.pendings.moved_full d h s pend lt old new heir gone)
 moved_full w v (ways.misses_slot n q i r some x) g z p a d h s pend lt moved new heir gone = moved_or (d == r.slot) (r.found (chunk_in w s)) (p.moved d (chunk_in w s)) moved
     (λ t found. let same = same_heir w g z p a n h r x.all.opened.recovery (subst (λ k. w.heir k ≡ Some h) (same_point d r.slot t) heir) in
-        absurd (clash (w.pending n) (subst (λ k. w.pending k ≡ true) same gone) (up_settled w g z p a n x.all.opened.up)))
+    absurd (clash (w.pending n) (subst (λ k. w.pending k ≡ true) same gone) (up_settled w g z p a n x.all.opened.up)))
     (λ old. a.pendings.moved_full d h s pend lt old new heir gone)
 moved_full w v (ways.ends_recovery n r x) g z p a d h s pend lt moved new heir gone =
     a.pendings.moved_full d h s (gone_moved w g z p a r.slot d s pend lt moved new).pending lt moved new (heir_ended (w.heir d) d r.slot h (w.pending d) pend heir) (was_pending w.pending r.slot h gone)

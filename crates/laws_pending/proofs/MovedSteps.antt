@@ -1,12 +1,11 @@
 -- Each way keeps what a recovery moved from a pending slot: its heir has it on its own page.
-use Rattle.std.proofs.Common.{◌≡◌, ℕ, ◌==◌, ◌<◌, ◌&&◌, ◌||◌, not, Bool, true, false, if◌then◌else◌, Option, Some, None, refl, sym, ap, subst, ◌∙◌, arith}
+use Rattle.std.proofs.Common.{◌≡◌, ℕ, ◌==◌, ◌<◌, ◌&&◌, ◌||◌, Bool, true, false, if◌then◌else◌, Option, Some, None, refl, sym, ap, subst, ◌∙◌, arith}
 use Rattle.std.specs.Prelude.{is_some}
 use Rattle.std.proofs.lemmas.Bool.Decides.{nat_tests}
 use Rattle.dlm_modes.specs.Points.{with_at}
-use Rattle.mdc_types.specs.Geometry.{page_of}
-use Rattle.node_recovery.specs.Progress.{Recovering, begun, with_cleared, with_found, with_read}
+use Rattle.node_recovery.specs.Progress.{Recovering, begun}
 use Rattle.cluster_model.specs.Phases.{is_up}
-use Rattle.storage_ways.proofs.Parts.{Part, chunk_in, read_leg, recovers, found_in, with_page_if, is_heir}
+use Rattle.storage_ways.proofs.Parts.{Part, chunk_in, recovers, found_in}
 use Rattle.storage_ways.proofs.Roled.{good_target}
 use Rattle.storage_ways.proofs.Ways as ways
 use Rattle.storage_ways.proofs.Ways.{Way, Recovers, SlotClears, EndsRecovery, AllRead}
@@ -14,11 +13,10 @@ use Rattle.laws_writes.proofs.Ghosts.{Ghost}
 use Rattle.laws_writes.proofs.Recoverers.{turn_held}
 use Rattle.laws_writes.proofs.Settled.{Since, since_after}
 use Rattle.laws_pending.proofs.Found.{up_settled, live_settled, heir_there, same_slot}
-use Rattle.laws_pending.proofs.Ghosts.{Pend, pend_after, marks_good}
-use Rattle.laws_pending.proofs.Gone.{full_found, good_marked}
+use Rattle.laws_pending.proofs.Ghosts.{Pend, pend_after}
+use Rattle.laws_pending.proofs.Gone.{full_found}
 use Rattle.laws_pending.proofs.Known.{Known}
-use Rattle.laws_pending.proofs.MarkSteps.{page_else, offered_good, wish_good}
-use Rattle.laws_pending.proofs.Pending.{MovedFound, MovedKept, MovedBit, MovedHeir, MovedFull}
+use Rattle.laws_pending.proofs.Pending.{MovedFound}
 use Rattle.laws_pending.proofs.Points.{at_point, clash, same_point, apart_sym, by_test}
 
 -- what is moved, and not settled
@@ -75,8 +73,8 @@ module _ (w : Part) (g : Ghost) (z : Since) (p : Pend) (a : Known w g z p) where
       let here = heir_there w g z p a n r x.all.opened.recovery in
       let then_fresh = fresh r.slot n s pend here rec first in
       let found : r.found (chunk_in w s) ≡ true = by_test (p.moved r.slot (chunk_in w s))
-          (λ t. sym (ap (λ y. found_in y (chunk_in w s)) x.all.opened.recovery) ∙ a.pendings.moved_kept r.slot n s pend m.within t first here (up_settled w g z p a n x.all.opened.up))
-          (λ f. full_found w g z p a n r x.all (chunk_in w s) all f) in
+      (λ t. sym (ap (λ y. found_in y (chunk_in w s)) x.all.opened.recovery) ∙ a.pendings.moved_kept r.slot n s pend m.within t first here (up_settled w g z p a n x.all.opened.up))
+      (λ f. full_found w g z p a n r x.all (chunk_in w s) all f) in
       let need = a.settled.read_need n s m.within (ap (λ y. found_in y (chunk_in w s)) x.all.opened.recovery ∙ found) then_fresh in
       clash ((w.bitmap n).need (chunk_in w s)) need (x.met (chunk_in w s) found)
 
@@ -179,8 +177,8 @@ moved_found w v (ways.recovers_slot n e x) g z p a d h s pend lt moved new heir 
     by_test (d == e)
     (λ t. absurd (none_moved w g z p a n e s x (subst (λ k. Moved w z p k s) (same_point d e t) m)))
     (λ f. let old : w.heir d ≡ Some h = heir_old (w.heir d) f heir in
-        let apart = heir_else w g z p a n d h s x.recovery (up_settled w g z p a n x.up) m old in
-        recovers_else w.recovery n h d (Some (begun e)) apart (a.pendings.moved_found d h s m.pending lt moved m.unsettled old settled))
+    let apart = heir_else w g z p a n d h s x.recovery (up_settled w g z p a n x.up) m old in
+    recovers_else w.recovery n h d (Some (begun e)) apart (a.pendings.moved_found d h s m.pending lt moved m.unsettled old settled))
   where
     heir_old : (y : Option ℕ) → (d == e) ≡ false → (if d == e then Some n else y) ≡ Some h → y ≡ Some h
     heir_old y f t = grind arith

@@ -1,6 +1,6 @@
 -- Where a sector was decided and has two values again, a write of it started since, and nothing was
 -- decided after that start.
-use Rattle.std.proofs.Common.{◌≡◌, ◌⊎◌, inl, inr, ℕ, ◌==◌, ◌&&◌, Bool, true, false, not, if◌then◌else◌, List, [], ◌∷◌, ◌++◌, Option, Some, None, refl, sym, ap, subst, ◌∙◌, arith}
+use Rattle.std.proofs.Common.{◌≡◌, inl, inr, ℕ, ◌==◌, ◌&&◌, Bool, true, false, not, if◌then◌else◌, List, [], ◌∷◌, ◌++◌, Option, Some, None, refl, sym, ap, subst, ◌∙◌, arith}
 use Rattle.std.proofs.lemmas.Bool.Decides.{nat_tests}
 use Rattle.mdc_types.specs.declared.events.Event.{Event}
 use Rattle.mdc_types.specs.declared.events.Event.TheVariants as events
@@ -9,7 +9,7 @@ use Rattle.mdc_types.specs.declared.outcomes.Entry.{Entry}
 use Rattle.mdc_types.specs.declared.outcomes.Outcome.{Outcome}
 use Rattle.mdc_types.specs.declared.outcomes.Outcome.TheVariants as outcomes
 use Rattle.plain_history.specs.History.{PlainWrite, live_writes, values_step, with_start, with_end, candidates}
-use Rattle.plain_history.specs.Seen.{Starts, Ends, Settles, Decides, OpenSince}
+use Rattle.plain_history.specs.Seen.{Starts, Decides, OpenSince}
 use Rattle.laws_writes.proofs.Ghosts.{is_open}
 use Rattle.laws_pending.proofs.Points.{clash, same_point}
 

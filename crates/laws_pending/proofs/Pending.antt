@@ -1,6 +1,6 @@
 -- Pending slots: what each has to say still, its heirs, and the leg that was to work when it became
 -- pending.
-use Rattle.std.specs.Prelude.{◌≡◌, ℕ, ◌<◌, ◌≤◌, Bool, true, false, ◌||◌, Option, Some, None, is_some}
+use Rattle.std.specs.Prelude.{◌≡◌, ℕ, ◌<◌, ◌≤◌, true, false, ◌||◌, Some, is_some}
 use Rattle.mdc_types.specs.Roles.{is_working}
 use Rattle.laws_roles.proofs.Parts.{promotes, wished, number}
 use Rattle.storage_ways.proofs.Parts.{Part, chunk_in, recovers, found_in, read_in}

@@ -1,6 +1,5 @@
 -- What the ghosts of trusted legs and marks mean of a state.
-use Rattle.std.proofs.Common.{◌≡◌, ◌⊎◌, inl, inr, ℕ, ◌<◌, ◌≤◌, ◌==◌, ◌&&◌, ◌||◌, not, Bool, true, false, Option, Some, None, refl, sym, ap, subst, ◌∙◌, arith, nat_le, nat_lt}
-use Rattle.std.specs.Prelude.{is_some}
+use Rattle.std.proofs.Common.{◌≡◌, ◌⊎◌, inl, inr, ℕ, ◌<◌, ◌≤◌, ◌&&◌, ◌||◌, not, Bool, true, false, Option, Some, None, refl, arith, nat_le, nat_lt}
 use Rattle.std.proofs.lemmas.Bool.Decides.{nat_tests}
 use Rattle.mdc_types.specs.Geometry.{nodes_of}
 use Rattle.mdc_types.specs.Roles.{role_of, is_working}
@@ -11,7 +10,7 @@ use Rattle.leg_failure.specs.Views.{works}
 use Rattle.cluster_model.specs.State.{State, sizes}
 use Rattle.cluster_model.specs.Phases.{is_up}
 use Rattle.cluster_model.specs.Recovered.{WasMarked}
-use Rattle.cluster_model.specs.Served.{Served, CalledIn, Trusted, Marked}
+use Rattle.cluster_model.specs.Served.{Served, Trusted}
 use Rattle.cluster_model.specs.Stored.{super_on, bit_on}
 use Rattle.laws_roles.proofs.InState.{working_role}
 use Rattle.laws_roles.proofs.Parts as roles
@@ -20,7 +19,7 @@ use Rattle.storage_ways.proofs.Moving.{Traced, around}
 use Rattle.storage_ways.proofs.Parts.{Part}
 use Rattle.storage_ways.proofs.Place.{here}
 use Rattle.laws_pending.proofs.Ghosts.{serves, calls, is_served, is_called, is_trusted, marks_trusted}
-use Rattle.laws_pending.proofs.Points.{by_test, each_of, has_such}
+use Rattle.laws_pending.proofs.Points.{each_of, has_such}
 use Rattle.laws_pending.proofs.Trust.{left, right, true_le}
 
 is_up_state : (x : NodeState) → is_up x ≡ true → x ≡ Up

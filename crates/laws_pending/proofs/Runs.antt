@@ -1,11 +1,9 @@
 -- What is known of pending slots, along each run.
-use Rattle.std.proofs.Common.{◌≡◌, ℕ, ◌<◌, ◌&&◌, not, Bool, true, false, List, [], ◌∷◌, refl, sym, ap, subst, ◌∙◌, arith}
-use Rattle.std.specs.Prelude.{nat_lt}
-use Rattle.std.proofs.lemmas.Bool.Decides.{nat_tests}
+use Rattle.std.proofs.Common.{List, [], ◌∷◌, refl, sym, subst}
 use Rattle.mdc_types.specs.declared.outcomes.Entry.{Entry}
-use Rattle.cluster_model.specs.State.{State, Core}
+use Rattle.cluster_model.specs.State.{State}
 use Rattle.cluster_model.specs.Contents.{SoundOpening}
-use Rattle.cluster_model.specs.Opening.{Origin, array_of, core_at}
+use Rattle.cluster_model.specs.Opening.{Origin, array_of}
 use Rattle.cluster_model.specs.Run.{Run}
 use Rattle.laws_roles.specs.Laws.{Tells}
 use Rattle.laws_roles.proofs.Parts.{supers}
@@ -17,16 +15,14 @@ use Rattle.storage_ways.proofs.Runs.{around_at, At, run_ways}
 use Rattle.storage_ways.proofs.Sound.{Sound}
 use Rattle.storage_ways.proofs.Ways as ways
 use Rattle.storage_ways.proofs.Ways.{Way, Ways}
-use Rattle.laws_writes.proofs.Ghosts.{Ghost, ghost_after, is_among}
+use Rattle.laws_writes.proofs.Ghosts.{Ghost}
 use Rattle.laws_writes.proofs.First.{First}
-use Rattle.laws_writes.proofs.FirstKeepers.{first_ghost}
 use Rattle.laws_writes.proofs.Runs.{ghost_of}
-use Rattle.laws_writes.proofs.Settled.{Since, since_after}
+use Rattle.laws_writes.proofs.Settled.{Since}
 use Rattle.laws_writes.proofs.Written.{ghost_over}
-use Rattle.laws_recovery.proofs.Ghosts.{Hold, hold_after}
+use Rattle.laws_recovery.proofs.Ghosts.{Hold}
 use Rattle.laws_recovery.proofs.Recovered.{Recovered, hold_over, since_over, recovered_way}
 use Rattle.laws_recovery.proofs.Runs.{hold_of, since_of, recovered}
-use Rattle.laws_recovery.proofs.FirstStale.{first_since}
 use Rattle.laws_pending.proofs.FirstPending.{first_pend, first_legs, first_pendings}
 use Rattle.laws_pending.proofs.Ghosts.{Pend, pend_after}
 use Rattle.laws_pending.proofs.Known.{Known}

@@ -25,7 +25,7 @@ use Rattle.cluster_model.specs.State.{State, Core, Offer, sizes}
 use Rattle.cluster_model.specs.Transfers.{transfer_of}
 use Rattle.cluster_model.specs.Contents.{Opens}
 use Rattle.cluster_model.specs.Opening.{Origin}
-use Rattle.cluster_model.specs.Run.{Run, Step}
+use Rattle.cluster_model.specs.Run.{Run}
 use Rattle.md_superblock.specs.Arrays.{Array}
 use Rattle.laws_roles.proofs.Runs.{array_is}
 use Rattle.storage_ways.proofs.Moving.{quiet_of}

@@ -1,13 +1,10 @@
 -- What a leg that is trusted in the part after a way tells of the part before: it was trusted there,
 -- or it is the leg that is to work.
-use Rattle.std.proofs.Common.{◌≡◌, ◌⊎◌, inl, inr, ℕ, ◌==◌, ◌<◌, ◌≤◌, ◌&&◌, ◌||◌, not, Bool, true, false, if◌then◌else◌, Option, Some, None, refl, sym, ap, subst, ◌∙◌, arith, nat_le}
-use Rattle.std.specs.Prelude.{is_some}
+use Rattle.std.proofs.Common.{◌≡◌, ◌⊎◌, inl, inr, ℕ, ◌==◌, ◌<◌, ◌≤◌, ◌&&◌, ◌||◌, Bool, true, false, if◌then◌else◌, Option, Some, refl, sym, ap, ◌∙◌, arith, nat_le}
 use Rattle.std.proofs.lemmas.Bool.Decides.{nat_tests}
 use Rattle.dlm_modes.specs.Points.{with_at}
-use Rattle.mdc_types.specs.Geometry.{IsGeometry}
 use Rattle.mdc_types.specs.Roles.{role_of, eight, is_working, is_written}
 use Rattle.mdc_types.specs.declared.roles.Role.{Role}
-use Rattle.mdc_types.specs.declared.roles.Roles.{Roles}
 use Rattle.mdc_types.specs.declared.roles.NodeState.{NodeState}
 use Rattle.mdc_types.specs.declared.roles.NodeState.TheVariants as states
 use Rattle.mdc_types.proofs.RolesLaws.{role_of-eight}
@@ -18,13 +15,13 @@ use Rattle.cluster_model.specs.Phases.{is_in, is_up, is_metadata}
 use Rattle.cluster_model.specs.State.{Offer}
 use Rattle.cluster_model.specs.Superblocks.{says_of_offer}
 use Rattle.laws_roles.proofs.InState.{works_role}
-use Rattle.laws_roles.proofs.Parts.{number, said_role, changes_super, offered_role, offered_says, offered_events, is_written_to, promotes, wished, is_loaded}
-use Rattle.storage_ways.proofs.Parts.{Part, roles_of}
+use Rattle.laws_roles.proofs.Parts.{number, said_role, changes_super, offered_role, offered_says, offered_events, promotes, wished, is_loaded}
+use Rattle.storage_ways.proofs.Parts.{Part}
 use Rattle.storage_ways.proofs.Sound.{Sound}
 use Rattle.storage_ways.proofs.Ways as ways
 use Rattle.storage_ways.proofs.Ways.{Way, Writing, Whole, Hearing}
 use Rattle.laws_pending.proofs.Ghosts.{serves, calls}
-use Rattle.laws_pending.proofs.Points.{at_point, clash}
+use Rattle.laws_pending.proofs.Points.{at_point}
 
 -- the leg is trusted: some node serves it, or a superblock calls it working
 pub data Trusts (w : Part) (l : ℕ) : Type 0 where

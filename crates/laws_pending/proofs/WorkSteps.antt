@@ -1,5 +1,5 @@
 -- Each way keeps, of the leg that is to work, that it is the one that was when a slot became pending.
-use Rattle.std.proofs.Common.{◌≡◌, ℕ, ◌==◌, ◌<◌, ◌&&◌, ◌||◌, not, Bool, true, false, if◌then◌else◌, Option, Some, None, refl, sym, ap, subst, ◌∙◌, arith}
+use Rattle.std.proofs.Common.{◌≡◌, ℕ, ◌==◌, ◌<◌, Bool, true, false, if◌then◌else◌, Option, Some, None, refl, sym, ap, subst, ◌∙◌, arith}
 use Rattle.std.specs.Prelude.{is_some}
 use Rattle.std.proofs.lemmas.Bool.Decides.{nat_tests}
 use Rattle.dlm_modes.specs.Points.{with_at}
@@ -13,7 +13,7 @@ use Rattle.laws_locks.specs.Rounded.{has_token, stands}
 use Rattle.cluster_model.specs.Guards.{is_out}
 use Rattle.cluster_model.specs.Phases.{is_in, is_metadata}
 use Rattle.cluster_model.specs.State.{Offer}
-use Rattle.laws_roles.proofs.Parts.{promotes, wished, with_wish, with_promoted, changes_super, offered_role}
+use Rattle.laws_roles.proofs.Parts.{promotes, wished, with_wish, with_promoted}
 use Rattle.storage_ways.proofs.Parts.{Part}
 use Rattle.storage_ways.proofs.Sound.{Sound}
 use Rattle.storage_ways.proofs.Ways as ways
@@ -68,7 +68,7 @@ module _ (w : Part) (s : Sound w) where
   pub one_offers : (n m l k : ℕ) → wished promotes (w.offer n) l ≡ true → wished promotes (w.offer m) k ≡ true → l ≡ k
   one_offers n m l k e f =
       let token : (j i : ℕ) → wished promotes (w.offer j) i ≡ true → has_token (w.sender j) ≡ true
-          = λ j i t. stands_token (w.sender j) (sym (s.phases.stands j) ∙ wished_some (w.offer j) i t) in
+      = λ j i t. stands_token (w.sender j) (sym (s.phases.stands j) ∙ wished_some (w.offer j) i t) in
       let same = s.phases.alone n m (token n l e) (token m k f) in
       wished_leg (w.offer m) l k (subst (λ j. wished promotes (w.offer j) l ≡ true) same e) f
 
