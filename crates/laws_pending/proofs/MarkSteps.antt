@@ -21,14 +21,8 @@ use Rattle.laws_pending.proofs.Ghosts.{Pend, pend_after, marks_trusted, marks_go
 use Rattle.laws_pending.proofs.Gone.{owed_there, was_good, full_found, owed_gone, apart_up, marked_served, marked_called, marked_good}
 use Rattle.laws_pending.proofs.Known.{Known}
 use Rattle.laws_pending.proofs.Pending.{Full, OwedServed, OwedCalled}
-use Rattle.laws_pending.proofs.Points.{clash, same_point, by_test}
+use Rattle.laws_pending.proofs.Points.{clash, same_point, by_test, if_true, if_false}
 use Rattle.laws_pending.proofs.Trust.{Trusts, reads, says, trusted, serves_before, calls_before, true_le, left}
-
-if_true : (b x y : Bool) → b ≡ true → (if b then x else y) ≡ true → x ≡ true
-if_true b x y t e = grind arith
-
-if_false : (b x y u : Bool) → b ≡ false → (if b then x else y) ≡ u → y ≡ u
-if_false b x y u f e = grind arith
 
 pub page_else : (bit : ℕ → ℕ → ℕ → Bool) (some : Bool) (k q i : ℕ) (set : ℕ → Bool) (d c l : ℕ) → (d == k) ≡ false → bit d c l ≡ true → with_page_if some bit k q i set d c l ≡ true
 page_else bit some k q i set d c l apart old = grind (arith, apart)

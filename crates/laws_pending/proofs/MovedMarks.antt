@@ -14,9 +14,9 @@ use Rattle.laws_pending.proofs.Ghosts.{Pend, pend_after, marks_good}
 use Rattle.laws_pending.proofs.Gone.{good_marked}
 use Rattle.laws_pending.proofs.Known.{Known}
 use Rattle.laws_pending.proofs.MarkSteps.{page_else, offered_good, wish_good}
-use Rattle.laws_pending.proofs.MovedSteps.{Moved, heir_needs, none_moved, found_marked, same_heir, heir_else, heir_ends, gone_moved, died_moved, begun_moved, moved_or, settled_else, if_false, not_died}
+use Rattle.laws_pending.proofs.MovedSteps.{Moved, heir_needs, none_moved, found_marked, same_heir, heir_else, heir_ends, gone_moved, died_moved, begun_moved, moved_or, settled_else, not_died}
 use Rattle.laws_pending.proofs.Pending.{MovedKept, MovedBit, MovedHeir, MovedFull}
-use Rattle.laws_pending.proofs.Points.{at_point, clash, same_point, apart_sym, by_test}
+use Rattle.laws_pending.proofs.Points.{at_point, clash, same_point, apart_sym, by_test, if_false}
 
 found_else : (recovery : ℕ → Option Recovering) (n m c : ℕ) (y : Option Recovering) → (m == n) ≡ false → found_in (recovery m) c ≡ true → found_in (with_at recovery n y m) c ≡ true
 found_else recovery n m c y apart old = grind (arith, apart)

@@ -17,7 +17,7 @@ use Rattle.laws_pending.proofs.Ghosts.{Pend, pend_after}
 use Rattle.laws_pending.proofs.Gone.{full_found}
 use Rattle.laws_pending.proofs.Known.{Known}
 use Rattle.laws_pending.proofs.Pending.{MovedFound}
-use Rattle.laws_pending.proofs.Points.{at_point, clash, same_point, apart_sym, by_test}
+use Rattle.laws_pending.proofs.Points.{at_point, clash, same_point, apart_sym, by_test, if_false}
 
 -- what is moved, and not settled
 pub record Moved (w : Part) (z : Since) (p : Pend) (d s : ℕ) : Type 0 where
@@ -93,9 +93,6 @@ module _ (w : Part) (g : Ghost) (z : Since) (p : Pend) (a : Known w g z p) where
     where
       same_some : (h n : ℕ) → Some h ≡ Some n → h ≡ n
       same_some h n e = cc
-
-pub if_false : (b x y u : Bool) → b ≡ false → (if b then x else y) ≡ u → y ≡ u
-if_false b x y u f e = grind arith
 
 pub not_died : (pending : ℕ → Bool) (n h : ℕ) → with_at pending n true h ≡ false → (h == n) ≡ false
 not_died pending n h e = grind arith

@@ -26,6 +26,12 @@ pub by_test : {P : Type 0} (b : Bool) → (b ≡ true → P) → (b ≡ false �
 by_test true t f = t refl
 by_test false t f = f refl
 
+pub if_true : (b x y : Bool) → b ≡ true → (if b then x else y) ≡ true → x ≡ true
+if_true b x y t e = grind arith
+
+pub if_false : (b x y u : Bool) → b ≡ false → (if b then x else y) ≡ u → y ≡ u
+if_false b x y u f e = grind arith
+
 pub some_one : (x : Option ℕ) → is_some x ≡ true → (k : ℕ) × (x ≡ Some k)
 some_one None e = cc
 some_one (Some k) e = (k, refl)

@@ -24,7 +24,7 @@ use Rattle.laws_pending.proofs.Ghosts.{Pend, pend_after, is_promoted}
 use Rattle.laws_pending.proofs.Known.{Known}
 use Rattle.laws_pending.proofs.MarkSteps.{wish_good}
 use Rattle.laws_pending.proofs.Pending.{WorkPending, OnePromoted, Solo}
-use Rattle.laws_pending.proofs.Points.{at_point, clash, same_point, by_test, has_such, such_one}
+use Rattle.laws_pending.proofs.Points.{at_point, clash, same_point, by_test, has_such, such_one, if_true, if_false}
 
 wished_some : (x : Option Offer) (l : ℕ) → wished promotes x l ≡ true → is_some x ≡ true
 wished_some None l e = cc
@@ -46,12 +46,6 @@ stands_token s e = grind arith
 
 not_both : (r : Role) → is_rebuilding r ≡ true → is_working r ≡ true → ⊥
 not_both r e f = grind arith
-
-if_true : (b x y : Bool) → b ≡ true → (if b then x else y) ≡ true → x ≡ true
-if_true b x y t e = grind arith
-
-if_false : (b x y u : Bool) → b ≡ false → (if b then x else y) ≡ u → y ≡ u
-if_false b x y u f e = grind arith
 
 to_true : (b x y : Bool) → b ≡ true → x ≡ true → (if b then x else y) ≡ true
 to_true b x y t e = grind arith
