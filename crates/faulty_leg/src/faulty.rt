@@ -1,10 +1,12 @@
-ghost use Rattle.std.specs.Prelude.{◌≡◌, ◌<◌, ◌≤◌, [], length, Some, None, slice_get, is_none, is_ok, IsOk, IsSome, IfOk, MatchResult, refl, true};
+ghost use Rattle.std.specs.Prelude.{◌≡◌, ◌<◌, ◌≤◌, [], length, Some, None, slice_get, is_none};
+ghost use Rattle.std.specs.Prelude.{is_ok, IsOk, IsSome, IfOk, MatchResult, refl, true};
 ghost use Rattle.std.specs.Ordering.{nat_cmp};
 ghost use Rattle.std.specs.BTreeMap.{get};
 ghost use Rattle.mdc_types.specs.Faults.{HasCause, Rose};
 ghost use Rattle.leg_store.specs.Leg.{Gives, put, LeftOldOrNew};
 ghost use Rattle.leg_store.specs.Plans.{GoesByPlan, LeavesByPlan};
-ghost use Rattle.leg_store.specs.Memory.{told, plan_of, next_failure, after_read, after_write, with_sector};
+ghost use Rattle.leg_store.specs.Memory.{told, plan_of, next_failure, after_read, after_write};
+ghost use Rattle.leg_store.specs.Memory.{with_sector};
 ghost use Rattle.faulty_leg.specs.Table.{HasFirsts};
 
 use leg_store::{Left, LegDev, MemLeg};
@@ -15,8 +17,8 @@ use std::marker::Model;
 
 /// A leg in memory, some of whose transfers fail.
 ///
-/// Reads and writes are numbered together from 0 on, those that fail too. A transfer takes no longer
-/// than a look-up in a sorted table of those that fail. Contracts see what they see of a `MemLeg`: the
+/// Reads and writes are numbered together from 0 on, those that fail too. A transfer takes a
+/// look-up in a sorted table of those that fail. Contracts see what they see of a `MemLeg`: the
 /// sectors, the list of the transfers that fail, and the counts of transfers and of faults.
 #[derive(Drop)]
 pub struct FaultyLeg {
@@ -46,7 +48,8 @@ impl Model for FaultyLeg {
       faults = f.faults;
     } };
 
-    ghost invariant = { λ f. (f.leg.failing ≡ []) × HasFirsts (get nat_cmp f.table) f.failing.items };
+    ghost invariant = { λ f.
+        (f.leg.failing ≡ []) × HasFirsts (get nat_cmp f.table) f.failing.items };
 }
 
 fn table_of(alloc: Global, listed: &[(u32, Left)]) -> Result<BTreeMap<u64, Left>, AllocError>
@@ -63,8 +66,9 @@ fn table_of(alloc: Global, listed: &[(u32, Left)]) -> Result<BTreeMap<u64, Left>
 }
 
 impl FaultyLeg {
-    /// A leg with the sectors of `leg`, which is not to fail by itself. An entry `(number, left)` of
-    /// `faults` makes the transfer of that number fail; of several with one number the first counts.
+    /// A leg with the sectors of `leg`, which is not to fail by itself. An entry `(number, left)`
+    /// of `faults` makes the transfer of that number fail; of several with one number the first
+    /// counts.
     pub fn new(
         alloc: Global,
         leg: MemLeg,
@@ -72,7 +76,12 @@ impl FaultyLeg {
     ) -> Result<FaultyLeg, AllocError>
         requires { leg.failing ≡ [] }
         ensures { IfOk result (λ made.
-            made ≡ record { sectors = leg.sectors; failing = faults.items; transfers = 0; faults = 0 }) }
+            made ≡ record {
+              sectors = leg.sectors;
+              failing = faults.items;
+              transfers = 0;
+              faults = 0;
+            }) }
     {
         let table = table_of(alloc, &faults)?;
         Ok(FaultyLeg {
@@ -201,7 +210,7 @@ mod tests {
         Sector { bytes: [byte; 512] }
     }
 
-    // The writes in order, numbered from 0: of what; whether it succeeds; what the sector holds then.
+    // The writes in order, numbered from 0: of what, whether it succeeds, what the sector holds.
     const WRITES: [(u8, Result<(), Failed>, u8); 5] = [
         (10, Ok(()), 10),
         (11, Err(Failed), 10),
