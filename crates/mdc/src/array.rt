@@ -6,7 +6,8 @@ ghost use Rattle.mdc.specs.Opened.{stand, Starts, origin_of, sizes_of, faults_of
 ghost use Rattle.mdc.specs.Opened.{IsNewLeg, AreNewLegs};
 
 use cluster_core::World;
-use leg_store::{Left, MemLeg};
+use faulty_leg::FaultyLeg;
+use leg_store::Left;
 use mdc_types::{Geometry, LegId};
 use script_text::{FaultLine, Script, Start};
 use std::alloc::{AllocError, Global};
@@ -38,19 +39,20 @@ fn new_leg(
     opening: &Opening,
     faults: &[FaultLine],
     l: LegId,
-) -> Result<MemLeg, AllocError>
+) -> Result<FaultyLeg, AllocError>
     requires origin { IsOrigin opening.now }
     requires leg { l < opening.now.sizes.legs }
     ensures { IfOk result (λ leg. IsNewLeg opening.now faults.now l leg) }
 {
-    header_leg(alloc, opening, l, leg_faults(alloc, faults, l)?)
+    let leg = header_leg(alloc, opening, l, Vec::new(alloc))?;
+    FaultyLeg::new(alloc, leg, leg_faults(alloc, faults, l)?)
 }
 
 fn new_legs(
     alloc: Global,
     opening: &Opening,
     faults: &[FaultLine],
-) -> Result<Vec<MemLeg>, AllocError>
+) -> Result<Vec<FaultyLeg>, AllocError>
     requires { IsOrigin opening.now }
     ensures { IfOk result (λ legs.
         AreNewLegs opening.now faults.now opening.now.sizes.legs legs.items) }
@@ -71,7 +73,7 @@ fn geometry_of(start: &Start) -> Geometry
 }
 
 /// The world of a script's header, over legs in memory.
-pub fn open_world(alloc: Global, script: &Script) -> Result<World<MemLeg>, AllocError>
+pub fn open_world(alloc: Global, script: &Script) -> Result<World<FaultyLeg>, AllocError>
     requires array { is_ok (start_sizes script.now.start) ≡ true }
     requires some_node { 1 ≤ script.now.start.nodes }
     requires nodes { script.now.start.nodes ≤ most_nodes script.now.start.second }
