@@ -16,10 +16,15 @@ from pathlib import Path
 
 TOP = Path(__file__).resolve().parent.parent
 
+# the crate that a crate's edits are made in, where that is another, with those of its files that
+# say what the rows do
+ROWS = {"laws_writes": ("storage_ways", ["Parts", "Sound", "Ways", "Roled"])}
+
 
 def applied(crate: Path, edit: Path) -> None:
-    """Applies an edit, which has the form of a must-fail edit."""
-    words = [line.split(": ", 1) for line in edit.read_text().splitlines() if line]
+    """Applies an edit, which has the form of a must-fail edit; `\\n` ends a line there."""
+    lines = [line for line in edit.read_text().splitlines() if line]
+    words = [line.replace("\\n", "\n").split(": ", 1) for line in lines]
     path = crate / words[0][1]
     text = path.read_text()
     for (_, old), (_, new) in zip(words[1::2], words[2::2]):
@@ -27,6 +32,35 @@ def applied(crate: Path, edit: Path) -> None:
         text = text.replace(old, new)
     path.unlink()
     path.write_text(text)
+
+
+def named(proofs: Path) -> list[str]:
+    """The files that a crate's proofs name."""
+    return (proofs / "Lib.antt").read_text().split()[2::3]
+
+
+def keep(proofs: Path, files: list[str]) -> None:
+    (proofs / "Lib.antt").write_text("".join(f"pub mod {f}\n" for f in files))
+
+
+def cites(file: Path) -> set[tuple[str, str]]:
+    """The files that a file of proofs cites, each with its crate."""
+    return set(re.findall(r"^use Rattle\.(\w+)\.proofs\.(\w+)", file.read_text(), re.M))
+
+
+def without_rows(crates: Path, name: str, rows: str, files: list[str]) -> None:
+    """Leaves only what says what the rows do, and what follows from that."""
+    gone = {(rows, f) for f in named(crates / rows / "proofs") if f not in files}
+    keep(crates / rows / "proofs", files)
+    proofs = crates / name / "proofs"
+    kept = named(proofs)
+    while lost := [f for f in kept if cites(proofs / f"{f}.antt") & gone]:
+        gone |= {(name, f) for f in lost}
+        kept = [f for f in kept if f not in lost]
+    keep(proofs, kept)
+    (crates / name / "src" / "lib.rt").write_text("//! The laws without runs.\n#![tactic(auto)]\n")
+    for law in proofs.glob("*/Answers.antt"):
+        shutil.rmtree(law.parent)
 
 
 def broken(crate: Path) -> list[str]:
@@ -45,9 +79,13 @@ def main() -> None:
             name = edit.parent.name
             copy = work / edit.stem
             # what is kept of the proofs below is large: linked, not copied
-            skip = shutil.ignore_patterns(name, ".git", "mutants")
+            rows, files = ROWS.get(name, (name, []))
+            skip = shutil.ignore_patterns(name, rows, ".git", "mutants")
             shutil.copytree(TOP, copy, copy_function=os.link, ignore=skip)
-            shutil.copytree(TOP / "crates" / name, copy / "crates" / name)
+            for own in {name, rows}:
+                shutil.copytree(TOP / "crates" / own, copy / "crates" / own)
+            if rows != name:
+                without_rows(copy / "crates", name, rows, files)
             applied(copy / "crates" / name, edit)
             facts = broken(copy / "crates" / name)
             print(f"{edit.stem}: breaks {', '.join(facts) or 'nothing'}", flush=True)
