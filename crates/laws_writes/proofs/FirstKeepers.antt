@@ -103,10 +103,10 @@ working_below o i l e = elim (cases_lt l 8) [
   | inr le ↦ let few = i.sizes.legs.1 in let spare = ap is_working (i.legs l (omega (arith, few, le))) in cc
 ]
 
-or_given : (a b : Bool) → (not a || b) ≡ true → a ≡ true → b ≡ true
+pub or_given : (a b : Bool) → (not a || b) ≡ true → a ≡ true → b ≡ true
 or_given a b e f = grind arith
 
-given_or : (a b : Bool) → (a ≡ true → b ≡ true) → (not a || b) ≡ true
+pub given_or : (a b : Bool) → (a ≡ true → b ≡ true) → (not a || b) ≡ true
 given_or a b h = by a refl
   where
     by : (x : Bool) → a ≡ x → (not x || b) ≡ true

@@ -4,6 +4,7 @@ pub mod Windows
 pub mod Contents
 pub mod Pages
 pub mod Intent
+pub mod Settled
 pub mod ListSteps
 pub mod RangeSteps
 pub mod FormSteps
@@ -12,10 +13,12 @@ pub mod WindowSteps
 pub mod Recoverers
 pub mod PageSteps
 pub mod Places
+pub mod FreeSectors
 pub mod UndecidedSteps
 pub mod Heirs
 pub mod KeeperSteps
 pub mod Settling
+pub mod SettledSteps
 pub mod NeedSteps
 pub mod MarkSteps
 pub mod CoverSteps
