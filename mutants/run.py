@@ -21,17 +21,18 @@ TOP = Path(__file__).resolve().parent.parent
 ROWS = {"laws_writes": ("storage_ways", ["Parts", "Sound", "Ways", "Roled"])}
 
 
-def applied(crate: Path, edit: Path) -> None:
-    """Applies an edit, which has the form of a must-fail edit; `\\n` ends a line there."""
+def applied(crate: Path, edit: Path) -> tuple[Path, str]:
+    """Applies an edit, which has the form of a must-fail edit; `\\n` ends a line there. Tells the
+    file and what it had."""
     lines = [line for line in edit.read_text().splitlines() if line]
     words = [line.replace("\\n", "\n").split(": ", 1) for line in lines]
     path = crate / words[0][1]
-    text = path.read_text()
+    text = was = path.read_text()
     for (_, old), (_, new) in zip(words[1::2], words[2::2]):
         assert text.count(old) == 1, f"{edit.name}: not once in {path.name}"
         text = text.replace(old, new)
-    path.unlink()
     path.write_text(text)
+    return path, was
 
 
 def named(proofs: Path) -> list[str]:
@@ -40,6 +41,9 @@ def named(proofs: Path) -> list[str]:
 
 
 def keep(proofs: Path, files: list[str]) -> None:
+    for file in proofs.glob("*.antt"):
+        if file.stem not in files:
+            file.unlink()
     (proofs / "Lib.antt").write_text("".join(f"pub mod {f}\n" for f in files))
 
 
@@ -64,32 +68,39 @@ def without_rows(crates: Path, name: str, rows: str, files: list[str]) -> None:
 
 
 def broken(crate: Path) -> list[str]:
-    """The facts of the files `..Steps` that aren't kept any more."""
+    """The facts that aren't kept any more, and the lemmas that fail for them."""
     check = ["rt", "check", "--jobs", "1", "--allow-holes"]
     out = subprocess.run(check, cwd=crate, capture_output=True, text=True)
-    return re.findall(r"proofs/\w+Steps\.antt:\S+ error: `(\w+)`", out.stdout + out.stderr)
+    return re.findall(r"proofs/\w+\.antt:\S+ error: `(\w+)`:", out.stdout + out.stderr)
+
+
+def copied(name: str, work: Path) -> Path:
+    """A copy of the crate in a copy of the repository."""
+    rows, files = ROWS.get(name, (name, []))
+    copy = work / name
+    # what is kept of the proofs below is large: linked, not copied
+    skip = shutil.ignore_patterns(name, rows, ".git", "mutants")
+    shutil.copytree(TOP, copy, copy_function=os.link, ignore=skip)
+    for own in {name, rows}:
+        shutil.copytree(TOP / "crates" / own, copy / "crates" / own)
+    if rows != name:
+        without_rows(copy / "crates", name, rows, files)
+    return copy / "crates" / name
 
 
 def main() -> None:
     work = Path(tempfile.mkdtemp(prefix="mutants.", dir=TOP.parent))
     try:
-        for edit in sorted(TOP.glob("mutants/*/*.edit")):
-            if sys.argv[1:] and edit.stem not in sys.argv[1:]:
+        for crate in sorted(TOP.glob("mutants/*/")):
+            wanted = [e for e in sorted(crate.glob("*.edit")) if e.stem in (sys.argv[1:] or [e.stem])]
+            if not wanted:
                 continue
-            name = edit.parent.name
-            copy = work / edit.stem
-            # what is kept of the proofs below is large: linked, not copied
-            rows, files = ROWS.get(name, (name, []))
-            skip = shutil.ignore_patterns(name, rows, ".git", "mutants")
-            shutil.copytree(TOP, copy, copy_function=os.link, ignore=skip)
-            for own in {name, rows}:
-                shutil.copytree(TOP / "crates" / own, copy / "crates" / own)
-            if rows != name:
-                without_rows(copy / "crates", name, rows, files)
-            applied(copy / "crates" / name, edit)
-            facts = broken(copy / "crates" / name)
-            print(f"{edit.stem}: breaks {', '.join(facts) or 'nothing'}", flush=True)
-            shutil.rmtree(copy)
+            copy = copied(crate.name, work)
+            for edit in wanted:
+                path, was = applied(copy, edit)
+                print(f"{edit.stem}: breaks {', '.join(broken(copy)) or 'nothing'}", flush=True)
+                path.write_text(was)
+            shutil.rmtree(work / crate.name)
     finally:
         shutil.rmtree(work, ignore_errors=True)
 

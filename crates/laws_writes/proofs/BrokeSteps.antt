@@ -16,6 +16,7 @@ use Rattle.storage_ways.proofs.Ways as ways
 use Rattle.laws_writes.proofs.Ghosts.{Ghost, ghost_after, undecided, is_open, has_value, with_break, with_value, with_try}
 use Rattle.laws_writes.proofs.Contents.{Contents, BrokeLive, BrokeNeed, BrokeUndecided, SomeValue}
 use Rattle.laws_writes.proofs.Flights.{is_same, write_there}
+use Rattle.laws_writes.proofs.Behind.{value_kept}
 use Rattle.laws_writes.proofs.Settling.{need_when_settled}
 
 -- What broke there.
@@ -33,9 +34,6 @@ broke_here g n x m s = by (m == n) refl (s == x.sector) refl x.started refl
 
 unbroken : (g : Ghost) (t : ℕ) (v : Sector) (m s : ℕ) → (with_value g t v).broke m s ≡ true → ((s == t) ≡ false) × (g.broke m s ≡ true)
 unbroken g t v m s e = (grind arith, grind arith)
-
-value_else : (g : Ghost) (t : ℕ) (v : Sector) (s : ℕ) → (s == t) ≡ false → (with_value g t v).values s ≡ g.values s
-value_else g t v s other = grind arith
 
 up_live : (w : Part) → Sound w → (n : ℕ) → is_up (w.state n) ≡ true → w.live n ≡ true
 up_live w sound n up = grind (arith, sound.phases.live n)
@@ -142,8 +140,8 @@ broke_undecided w v (ways.parts n o p) g sound con m s = grind (arith, nat_tests
 broke_undecided w v (ways.dies n told p) g sound con m s = grind (arith, nat_tests, con.broke_undecided m s)
 broke_undecided w v (ways.outs n f j x t) g sound con m s = λ h. still_open g n f x s (con.broke_undecided m s h)
 broke_undecided w v (ways.misses n f j x left t) g sound con m s = λ h. still_open g n f x s (con.broke_undecided m s h)
-broke_undecided w v (ways.ends n f x e) g sound con m s = λ h. let was = unbroken g x.sector x.value m s h in ap is_open (value_else g x.sector x.value s was.0) ∙ con.broke_undecided m s was.1
-broke_undecided w v (ways.settles n p b e) g sound con m s = λ h. let was = unbroken g b.sector b.value m s h in ap is_open (value_else g b.sector b.value s was.0) ∙ con.broke_undecided m s was.1
+broke_undecided w v (ways.ends n f x e) g sound con m s = λ h. let was = unbroken g x.sector x.value m s h in ap is_open (value_kept g x.sector x.value s was.0) ∙ con.broke_undecided m s was.1
+broke_undecided w v (ways.settles n p b e) g sound con m s = λ h. let was = unbroken g b.sector b.value m s h in ap is_open (value_kept g b.sector b.value s was.0) ∙ con.broke_undecided m s was.1
 broke_undecided w v (ways.breaks n f x e) g sound con m s = λ h. elim (broke_here g n x m s h) [
   | inl now ↦ con.started_undecided n f s (ap (λ t. writes_at (write_of w n f) t) now.1 ∙ write_there w n f x e.write) (ap has_started e.write ∙ now.2)
   | inr old ↦ con.broke_undecided m s old

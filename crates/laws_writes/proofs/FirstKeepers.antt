@@ -146,7 +146,7 @@ one_each n k v few = elim (cases_lt k n) [
 ]
 
 -- a header has one value at each sector
-header_one : (o : Origin) (legs : Legs) (s : ℕ) → IsHeader o legs → 1 < length (get_or o.base s []) → ⊥
+pub header_one : (o : Origin) (legs : Legs) (s : ℕ) → IsHeader o legs → 1 < length (get_or o.base s []) → ⊥
 header_one o legs s h two =
     let base : length (get_or o.base s []) ≡ length (get_or (replicate o.sizes.room (zero_sector ∷ [])) s []) = ap (λ (x : Origin). length (get_or x.base s [])) h.header in
     let few = one_each o.sizes.room s (zero_sector ∷ []) (omega arith) in omega (arith, base, few, two)

@@ -32,10 +32,6 @@ kept writes n k new y finds a i u old = by (a == n) refl (i == k) refl (finds i)
 here_at : (y : Option LiveWrite) (x : LiveWrite) (u : ℕ) → y ≡ Some x → (x.sector == u) ≡ true → writes_at y u ≡ true
 here_at y x u is e = ap (λ z. writes_at z u) is ∙ e
 
--- a live write is of a sector of which it was before, or is the one that is asked
-abbrev pub Was : Part → Part → Type 0
-Was w v = (a i u : ℕ) → writes_at (write_of v a i) u ≡ true → writes_at (write_of w a i) u ≡ true
-
 pub was_out : (w : Part) (n k l : ℕ) (x : LiveWrite) → Trying w n k l x → (a i u : ℕ)
     → writes_at (write_in i (with_at w.writes n (done_in k l (start_in k (w.writes n))) a)) u ≡ true → writes_at (write_of w a i) u ≡ true
 was_out w n k l x t a i u = kept w.writes n k (done_in k l (start_in k (w.writes n))) (Some (done_on l (started x))) t.does a i u (here_at (write_of w n k) x u t.write)

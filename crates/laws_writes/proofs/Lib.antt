@@ -38,6 +38,7 @@ pub mod Runs
 pub mod Promises
 pub mod Chunks
 pub mod Races
+pub mod Free
 pub mod Moves
 pub mod PlaceSteps
 pub mod Behind
@@ -45,3 +46,4 @@ pub mod CopySteps
 pub mod FlightSteps
 pub mod BrokeSteps
 pub mod ContentSteps
+pub mod Headers

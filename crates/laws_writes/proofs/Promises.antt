@@ -1,9 +1,8 @@
 -- The laws.
-use Rattle.std.proofs.Common.{◌≡◌, ℕ, List, [], ◌∷◌, refl, sym, ap, subst, ◌∙◌}
-use Rattle.mdc_types.specs.declared.numbers.Sector.{Sector}
+use Rattle.std.proofs.Common.{◌≡◌, List, [], ◌∷◌, refl, sym, subst}
 use Rattle.mdc_types.specs.declared.outcomes.Entry.{Entry}
 use Rattle.md_superblock.specs.Arrays.{Array}
-use Rattle.plain_history.specs.History.{candidates, values_at, live_writes, asked_reads, LegalEntry}
+use Rattle.plain_history.specs.History.{candidates, values_at, asked_reads, LegalEntry}
 use Rattle.cluster_model.specs.State.{State}
 use Rattle.cluster_model.specs.Contents.{SoundOpening}
 use Rattle.cluster_model.specs.Opening.{Origin, array_of}
@@ -13,14 +12,14 @@ use Rattle.laws_roles.specs.Laws.{Tells}
 use Rattle.laws_roles.proofs.Parts.{ghost_in}
 use Rattle.laws_roles.proofs.Parts as roles
 use Rattle.laws_roles.proofs.Runs.{array_is}
-use Rattle.storage_ways.proofs.Flying.{flying, live_are}
+use Rattle.storage_ways.proofs.Flying.{live_are}
 use Rattle.storage_ways.proofs.Moving.{Traced, around}
 use Rattle.storage_ways.proofs.Place.{here, Place}
 use Rattle.storage_ways.proofs.Runs as run_places
 use Rattle.storage_ways.proofs.Runs.{around_on, traced_in, place}
-use Rattle.laws_writes.specs.Laws.{WritesHold, BitsHold, WindowsHold, CopiesHold, WritesAreLegal, RunsKeepTheIntent, RunsHoldWrites, RunsHoldBits, RunsHoldWindows, RunsCopyAlone, RunsWriteLegally}
-use Rattle.laws_writes.proofs.Ghosts.{Ghost}
+use Rattle.laws_writes.specs.Laws.{WritesHold, BitsHold, WindowsHold, CopiesHold, CopiesFreely, WritesAreLegal, RunsKeepTheIntent, RunsHoldWrites, RunsHoldBits, RunsHoldWindows, RunsCopyAlone, RunsCopyFreely, RunsWriteLegally}
 use Rattle.laws_writes.proofs.Closed.{windows_hold}
+use Rattle.laws_writes.proofs.Free.{copies_freely}
 use Rattle.laws_writes.proofs.InState.{writes_hold, bits_hold, copies_hold}
 use Rattle.laws_writes.proofs.Kept.{intent_holds}
 use Rattle.laws_writes.proofs.Legal.{write_legal}
@@ -56,17 +55,21 @@ module _ (o : Origin) (start end : State) (past : List Entry) (sound : SoundOpen
   pub windows_here : WindowsHold end
   windows_here = windows_hold end (around end.core end.legs rg tr) place_here written_here.windows
 
+  pub freely_here : CopiesFreely end
+  freely_here = copies_freely end (ghost_of o start sound tells past end run) (around end.core end.legs rg tr) place_here written_here.windows written_here.contents
+
   pub copies_here : CopiesHold end
   copies_here = copies_hold end (ghost_of o start sound tells past end run) (around end.core end.legs rg tr) place_here refl written_here.windows
 
 legal_here : (o : Origin) (start end : State) (past : List Entry) → SoundOpening o start → Tells o start → Run start past end → WritesAreLegal (values_at o.base) past
 legal_here o start end [] sound tells run = tt
-legal_here o start end (x ∷ past) sound tells run =
-    (λ of.
-    subst (λ f. LegalEntry f (asked_reads past) (candidates (values_at o.base) past) x.event x.outcome) (sym (live_are o start run.0 past sound.opens run.1))
-    (write_legal run.0.core _ (place_here o start run.0 past sound tells run.1) (ghost_of o start sound tells past run.0 run.1) (written_here o start run.0 past sound tells run.1).contents
-    x.event x.outcome (asked_reads past) (candidates (values_at o.base) past) of run.2.accepted),
-    legal_here o start run.0 past sound tells run.1)
+legal_here o start end (x ∷ past) sound tells run = (
+  λ of.
+      subst (λ f. LegalEntry f (asked_reads past) (candidates (values_at o.base) past) x.event x.outcome) (sym (live_are o start run.0 past sound.opens run.1))
+      (write_legal run.0.core _ (place_here o start run.0 past sound tells run.1) (ghost_of o start sound tells past run.0 run.1) (written_here o start run.0 past sound tells run.1).contents
+      x.event x.outcome (asked_reads past) (candidates (values_at o.base) past) of run.2.accepted),
+  legal_here o start run.0 past sound tells run.1,
+)
 
 -- The laws.
 
@@ -84,6 +87,9 @@ runs_hold_windows o start end past sound tells run = windows_here o start end pa
 
 pub runs_copy_alone : RunsCopyAlone
 runs_copy_alone o start end past sound tells run = copies_here o start end past sound tells run
+
+pub runs_copy_freely : RunsCopyFreely
+runs_copy_freely o start end past sound tells run = freely_here o start end past sound tells run
 
 pub runs_write_legally : RunsWriteLegally
 runs_write_legally o start end past sound tells run = legal_here o start end past sound tells run

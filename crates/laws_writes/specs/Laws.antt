@@ -1,6 +1,6 @@
 -- Writes, bitmaps and windows, and the intent of open writes, along each run over legs that tell
 -- their contents.
-use Rattle.std.specs.Prelude.{◌≡◌, ◌≢◌, ◌⊎◌, ℕ, true, false, is_some, List, [], ◌∷◌, Option, Some}
+use Rattle.std.specs.Prelude.{◌≡◌, ◌≢◌, ℕ, true, false, is_some, List, [], ◌∷◌, Some}
 use Rattle.dlm_modes.specs.declared.mode.Mode.TheVariants.{EX}
 use Rattle.mdc_types.specs.Geometry.{chunk_of}
 use Rattle.mdc_types.specs.Ranges.{holds}
@@ -14,11 +14,12 @@ use Rattle.mdc_types.specs.declared.roles.NodeState.TheVariants.{Up}
 use Rattle.msg_rounds.specs.declared.phases.SenderPhase.TheVariants.{Granted}
 use Rattle.mirror_io.specs.Flight.{write_in, is_done}
 use Rattle.mirror_io.specs.declared.live.LiveWrite.{LiveWrite}
-use Rattle.suspend_ranges.specs.Suspended.{entry_of}
+use Rattle.suspend_ranges.specs.Suspended.{entry_of, suspends}
+use Rattle.resync_worker.specs.declared.buffer.Buffer.{Buffer}
 use Rattle.plain_history.specs.History.{candidates, values_at, LegalAfter}
 use Rattle.cluster_model.specs.State.{State, Offer, sizes}
 use Rattle.cluster_model.specs.Changes.{resync_res}
-use Rattle.cluster_model.specs.Contents.{SoundOpening}
+use Rattle.cluster_model.specs.Contents.{SoundOpening, Opens, IsHeader, AllTell}
 use Rattle.cluster_model.specs.Copying.{buffer_of}
 use Rattle.cluster_model.specs.Opening.{Origin}
 use Rattle.cluster_model.specs.Run.{Run}
@@ -31,6 +32,11 @@ use Rattle.storage_ways.specs.Broken.{broken_in}
 abbrev pub Always : (Origin → State → List Entry → State → Type 0) → Type 0
 Always Holds = (o : Origin) (start end : State) (past : List Entry)
     → SoundOpening o start → Tells o start → Run start past end → Holds o start past end
+
+-- the opening of a header is sound, where its legs tell their contents
+abbrev pub HeadersAreSound : Type 0
+HeadersAreSound = (o : Origin) (start : State)
+    → Opens o start → IsHeader o start.legs → AllTell o start.legs → SoundOpening o start
 
 -- one slot of a node that is live, or waits for its recovery, marks the chunk of each sector with
 -- two candidates on each leg that may be read
@@ -112,3 +118,14 @@ WritesAreLegal base (x ∷ past) =
 
 abbrev pub RunsWriteLegally : Type 0
 RunsWriteLegally = Always (λ o start past end. WritesAreLegal (values_at o.base) past)
+
+-- Copying meets no write: the sector that is copied lies in the window that its node has open, and
+-- no write in flight is of it.
+pub record CopiesFreely (state : State) : Type 0 where
+  pub within : (n : ℕ) (b : Buffer) → buffer_of state.core n ≡ Some b
+      → suspends b.sector (state.core.copy n).window ≡ true
+  pub free : (n m k : ℕ) (b : Buffer) (w : LiveWrite) → buffer_of state.core n ≡ Some b
+      → write_in k (state.core.writes m) ≡ Some w → w.sector ≢ b.sector
+
+abbrev pub RunsCopyFreely : Type 0
+RunsCopyFreely = Always (λ o start past end. CopiesFreely end)

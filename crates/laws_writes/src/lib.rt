@@ -3,8 +3,14 @@
 //! contents, from an opening whose intents are marked.
 #![tactic(auto)]
 
-ghost use Rattle.laws_writes.specs.Laws.{RunsCopyAlone, RunsHoldBits, RunsHoldWindows};
-ghost use Rattle.laws_writes.specs.Laws.{RunsHoldWrites, RunsKeepTheIntent, RunsWriteLegally};
+ghost use Rattle.laws_writes.specs.Laws.{HeadersAreSound, RunsCopyAlone, RunsCopyFreely};
+ghost use Rattle.laws_writes.specs.Laws.{RunsHoldBits, RunsHoldWindows, RunsHoldWrites};
+ghost use Rattle.laws_writes.specs.Laws.{RunsKeepTheIntent, RunsWriteLegally};
+
+/// At the opening of a header no two legs differ, and none is faulty.
+pub fn headers_are_sound()
+    ensures { HeadersAreSound }
+{}
 
 /// At each place of each run, of each sector with two candidates: one slot of a node that is live,
 /// or whose recovery is awaited, marks the sector's chunk on each leg that may be read.
@@ -40,4 +46,10 @@ pub fn runs_copy_alone()
 /// while it is live.
 pub fn runs_write_legally()
     ensures { RunsWriteLegally }
+{}
+
+/// At each place of each run the sector that is copied lies in the window that its node has open,
+/// and no write in flight is of it.
+pub fn runs_copy_freely()
+    ensures { RunsCopyFreely }
 {}

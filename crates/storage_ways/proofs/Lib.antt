@@ -9,6 +9,7 @@ pub mod Guarding
 pub mod RequestRows
 pub mod BitmapRows
 pub mod CopyRows
+pub mod SectorRows
 pub mod RecoveryRows
 pub mod GrantRows
 pub mod ComingRows

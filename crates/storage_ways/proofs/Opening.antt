@@ -64,6 +64,7 @@ pub record Begins (o : Origin) (legs : Legs) (w : Part) : Type 0 where
   pub stored : w.stored ≡ data_on o.sizes legs
   pub values : w.values ≡ values_at o.base
   pub broken : (n s : ℕ) → w.broken n s ≡ false
+  pub since : (n s : ℕ) → w.since n s ≡ false
   -- superblocks, and the ghosts of roles by the leg with the newest
   pub super : role_opening.Begins o w.super
   pub ghost : w.ghost ≡ ghost_at o super.home
@@ -255,6 +256,7 @@ module _ (o : Origin) (start : State) (opens : Opens o start) (tells : Tells o s
         stored = refl;
         values = refl;
         broken = λ n s. refl;
+        since = λ n s. refl;
         super = opening_begins o start opens tells;
         ghost = refl;
         mark_bit = marked;

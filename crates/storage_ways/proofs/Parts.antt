@@ -63,6 +63,8 @@ pub record Part : Type 0 where
   -- by node and sector: a started write of the node there was broken, nothing was decided there since,
   -- and the node hasn't joined anew
   pub broken : ℕ → ℕ → Bool
+  -- by node and sector: the sector was settled since the node began to recover last
+  pub since : ℕ → ℕ → Bool
 
 abbrev pub told_by : (ℕ → Lock) → ℕ → Option Range
 told_by locks m =
@@ -72,8 +74,8 @@ told_by locks m =
 abbrev pub bits_on : Sizes → Legs → ℕ → ℕ → ℕ → Bool
 bits_on g legs k c l = nat_lt k (nodes_of g) && bit_on g legs k c l
 
-abbrev pub part_of : Core → (ℕ → Option Says) → (ℕ → ℕ → ℕ → Bool) → (ℕ → ℕ → Sector) → roles.Ghost → (ℕ → List Sector) → (ℕ → ℕ → Bool) → Part
-part_of core super bit stored ghost values broken = record {
+abbrev pub part_of : Core → (ℕ → Option Says) → (ℕ → ℕ → ℕ → Bool) → (ℕ → ℕ → Sector) → roles.Ghost → (ℕ → List Sector) → (ℕ → ℕ → Bool) → (ℕ → ℕ → Bool) → Part
+part_of core super bit stored ghost values broken since = record {
   geometry = core.array.sizes;
   state = core.state;
   view = core.view;
@@ -100,6 +102,7 @@ part_of core super bit stored ghost values broken = record {
   ghost = ghost;
   values = values;
   broken = broken;
+  since = since;
 }
 
 -- of this part, what says who may be read
@@ -254,3 +257,10 @@ decided_there broken t m s = if t == s then false else broken m s
 
 abbrev pub joined_there : (ℕ → ℕ → Bool) → ℕ → ℕ → ℕ → Bool
 joined_there broken n m s = if m == n then false else broken m s
+
+-- what was settled since: one more, and a recovery that begins
+abbrev pub settled_there : (ℕ → ℕ → Bool) → ℕ → ℕ → ℕ → Bool
+settled_there since t m s = if s == t then true else since m s
+
+abbrev pub begun_there : (ℕ → ℕ → Bool) → ℕ → ℕ → ℕ → Bool
+begun_there since n m s = if m == n then false else since m s

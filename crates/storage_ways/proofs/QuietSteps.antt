@@ -17,14 +17,16 @@ use Rattle.cluster_model.specs.Table.{refusal}
 use Rattle.cluster_model.specs.Transfers.{transfer_of}
 use Rattle.cluster_model.specs.Writes.{end_write, break_write}
 use Rattle.laws_roles.proofs.Parts as roles
+use Rattle.storage_ways.specs.Since.{since_step}
 use Rattle.storage_ways.specs.Broken.{broken_by, decided_by, broken_step}
 use Rattle.storage_ways.proofs.Flying.{flying, plain_of}
-use Rattle.storage_ways.proofs.Parts.{decided_values, decided_there}
+use Rattle.storage_ways.proofs.Parts.{decided_values, decided_there, settled_there}
 use Rattle.storage_ways.proofs.Place.{Around, here, Place, sound_of}
 use Rattle.storage_ways.proofs.Moving.{Traced, around, next, quiet_of, quiet_well, done_when, moved}
 use Rattle.storage_ways.proofs.BitmapRows.{clear_way}
 use Rattle.storage_ways.proofs.ComingRows.{join_way, up_way}
-use Rattle.storage_ways.proofs.CopyRows.{resync_way, end_pass_way, own_way, full_way, again_way, settle_way, settled}
+use Rattle.storage_ways.proofs.CopyRows.{resync_way, end_pass_way, own_way, full_way, again_way}
+use Rattle.storage_ways.proofs.SectorRows.{settle_way, settled}
 use Rattle.storage_ways.proofs.FinishRows.{finish_way}
 use Rattle.storage_ways.proofs.GoingRows.{leave_way, die_way, quit_way}
 use Rattle.storage_ways.proofs.GrantRows.{granted_way, token_way, message_asked_way}
@@ -73,8 +75,8 @@ module _ (old : State) (g : roles.Ghost) (vs : Traced) (p : Place old.core (arou
   ended_values : (n k : ℕ) (x : LiveWrite) → write_in k (old.core.writes n) ≡ Some x → Way (here old.core A) (here (end_write old.core n k) (record A { values = decided_values vs.values x.sector x.value; broken = decided_there vs.broken x.sector })) → Done (events.EndWrite n k)
   ended_values n k x found w = subst (λ (y : Option PlainWrite). Way (here old.core A) (here (end_write old.core n k) (record A { values = λ s. with_end y s (vs.values s); broken = λ m s. decided_by y vs.broken m s }))) (sym (ap plain_of found)) w
 
-  settled_values : (n : ℕ) (b : Buffer) → buffer_of old.core n ≡ Some b → Way (here old.core A) (here (settle old.core n) (record A { values = decided_values vs.values b.sector b.value; broken = decided_there vs.broken b.sector })) → Done (events.Settle n)
-  settled_values n b is w = subst (λ y. Way (here old.core A) (here (settle old.core n) (record A { values = values_step (events.Settle n) (settled_with y) (flying old.core.writes) vs.values; broken = broken_step (events.Settle n) (settled_with y) (flying old.core.writes) vs.broken }))) (sym is) w
+  settled_values : (n : ℕ) (b : Buffer) → buffer_of old.core n ≡ Some b → Way (here old.core A) (here (settle old.core n) (record A { values = decided_values vs.values b.sector b.value; broken = decided_there vs.broken b.sector; since = settled_there vs.since b.sector })) → Done (events.Settle n)
+  settled_values n b is w = subst (λ y. Way (here old.core A) (here (settle old.core n) (record A { values = values_step (events.Settle n) (settled_with y) (flying old.core.writes) vs.values; broken = broken_step (events.Settle n) (settled_with y) (flying old.core.writes) vs.broken; since = since_step (events.Settle n) (settled_with y) vs.since }))) (sym is) w
 
   broken_values : (n k : ℕ) (b : Broken old.core n k) → Done (events.BreakWrite n k)
   broken_values n k b = subst (λ (y : Option PlainWrite). Way (here old.core A) (here (break_write old.core n k) (record A { broken = λ m s. broken_by n y vs.broken m s }))) (sym (ap plain_of b.found)) (break_way old.core A n k b)

@@ -26,7 +26,8 @@ use Rattle.storage_ways.proofs.Place.{Around, here, Place, sound_of}
 use Rattle.storage_ways.proofs.Moving.{Traced, around, next, Reads, reads, fails, reads_of, done_when, moved}
 use Rattle.storage_ways.proofs.Standing.{page_stands}
 use Rattle.storage_ways.proofs.ComingRows.{load_way}
-use Rattle.storage_ways.proofs.CopyRows.{PageDue, page_due, gather_way, SectorDue, sector_due, fill_way}
+use Rattle.storage_ways.proofs.CopyRows.{PageDue, page_due, gather_way}
+use Rattle.storage_ways.proofs.SectorRows.{SectorDue, sector_due, fill_way}
 use Rattle.storage_ways.proofs.RecoveryRows.{PageRead, page_read, slot_in_way}
 use Rattle.storage_ways.proofs.Failing.{failed_ways}
 use Rattle.storage_ways.proofs.Guarding.{works_leg}

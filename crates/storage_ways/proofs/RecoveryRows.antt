@@ -19,7 +19,7 @@ use Rattle.cluster_model.specs.Failures.{slot_failed}
 use Rattle.cluster_model.specs.Phases.{is_up}
 use Rattle.cluster_model.specs.Recovering.{rec_guards, recover, pending_heir, slotin_guards, slot_read, page_found, slotout_guards, slot_cleared, page_cleared, leg_unread, leg_unmarked, recovered_guards, recovered, slot_recovered, leg_uncleared, chunk_needed}
 use Rattle.laws_sound.proofs.Guarded.{all_none, unless_none, refused_none}
-use Rattle.storage_ways.proofs.Parts.{with_page, with_page_if}
+use Rattle.storage_ways.proofs.Parts.{with_page, with_page_if, begun_there}
 use Rattle.storage_ways.proofs.Place.{Around, here, Place, sound_of}
 use Rattle.storage_ways.proofs.Blocks.{retold, told_kept}
 use Rattle.storage_ways.proofs.Guarding.{acked_by, target_leg, working_at, below_legs, lock_alone, none_open, one_open, both_nots}
@@ -49,12 +49,12 @@ other_node s n ne = by (s == n) refl
     by true e = let same : s ≡ n = grind (arith, nat_tests) in absurd (ne same)
 
 module _ (core : Core) (a : Around) (p : Place core a) where
-  pub recover_way : (n d : ℕ) → first_of (rec_guards core n d) ≡ None → Way (here core a) (here (recover core n d) a)
+  pub recover_way : (n d : ℕ) → first_of (rec_guards core n d) ≡ None → Way (here core a) (here (recover core n d) (record a { since = begun_there a.since n }))
   recover_way n d ok =
       let g = (all_none (rec_guards core n d) ok).1.1.1 in
       let c = core.copy n in
       let alone = lock_alone c.turn c.pass c.window (unless_none _ _ g.1.0) in
-      retold (here core a) (recover core n d) a _ (told_kept core.locks d _ refl)
+      retold (here core a) (recover core n d) (record a { since = begun_there a.since n }) _ (told_kept core.locks d _ refl)
       (recovers_slot n d (record {
         up = unless_none (is_up (core.state n)) _ g.0;
         turn = alone.turn;

@@ -23,6 +23,7 @@ use Rattle.laws_roles.proofs.Parts.{supers, ghost_after, ghost_in}
 use Rattle.laws_roles.proofs.Runs as role_runs
 use Rattle.laws_roles.proofs.Runs.{array_is, holds}
 use Rattle.laws_roles.proofs.Standing.{Bytes}
+use Rattle.storage_ways.specs.Since.{since_in}
 use Rattle.storage_ways.specs.Broken.{broken_in}
 use Rattle.storage_ways.proofs.Flying.{flying, live_are}
 use Rattle.storage_ways.proofs.KeptSteps.{Kept, kept_ways}
@@ -86,6 +87,7 @@ around_on array legs g t = record {
   ghost = g;
   values = t.values;
   broken = t.broken;
+  since = t.since;
 }
 
 module _ (o : Origin) (start : State) (opens : Opens o start) (tells : Tells o start) where
@@ -94,7 +96,7 @@ module _ (o : Origin) (start : State) (opens : Opens o start) (tells : Tells o s
 
   -- what the entries tell
   abbrev pub traced_in : List Entry → Traced
-  traced_in past = record { values = candidates (values_at o.base) past; broken = broken_in past }
+  traced_in past = record { values = candidates (values_at o.base) past; broken = broken_in past; since = since_in past }
 
   abbrev pub around_at : List Entry → State → Around
   around_at past end = around_on (array_of o) end.legs (ghost_in o home past) (traced_in past)

@@ -100,6 +100,7 @@ module _ (old : State) (g : roles.Ghost) (vs : Traced) (p : Place old.core (arou
     others = others_none old.core p.known A.super A.ghost n (ap has_token q.offered);
     silent = silent_by old.core A p n (ap has_token q.offered) (ap has_published q.offered);
     eight = eight_of old.core p.known A.super A.ghost n q.offer q.is;
+    leg = q.leg;
   }
 
   role_writing : (n l : ℕ) (q : Proposed n l) → role_ways.Writing (roles_here old.core A) n q.offer

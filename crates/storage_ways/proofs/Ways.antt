@@ -42,7 +42,7 @@ use Rattle.cluster_model.specs.Wishes.{is_window}
 use Rattle.laws_locks.specs.Rounded.{has_token}
 use Rattle.laws_roles.proofs.Parts.{promotes, needs_known, with_finish, with_source, with_wish}
 use Rattle.storage_ways.proofs.Sound.{Sound}
-use Rattle.storage_ways.proofs.Parts.{Part, chunk_in, is_range, has_pass, covers, recovers, with_page, with_page_if, with_data, with_data_if, tried_values, decided_values, broken_there, decided_there, joined_there}
+use Rattle.storage_ways.proofs.Parts.{Part, chunk_in, is_range, has_pass, covers, recovers, with_page, with_page_if, with_data, with_data_if, tried_values, decided_values, broken_there, decided_there, joined_there, settled_there, begun_there}
 
 -- What guards tell.
 
@@ -392,6 +392,7 @@ pub record Writing (w : Part) (n l : ℕ) (o : Offer) : Type 0 where
   pub others : (m : ℕ) → m ≢ n → w.offer m ≡ None
   pub silent : Silent w
   pub eight : (l : ℕ) → role_of (eight o.role) l ≡ o.role l
+  pub leg : l < w.geometry.legs
 
 -- The ways.
 
@@ -651,6 +652,7 @@ pub data Way (w : Part) : Part → Type 0 where
         bitmap = with_at w.bitmap n (need_met (w.bitmap n) (completes w.geometry b));
         values = decided_values w.values b.sector b.value;
         broken = decided_there w.broken b.sector;
+        since = settled_there w.since b.sector;
       })
   ends_pass : (n : ℕ) → EndsPass w n → Way w (record w { copy = with_at w.copy n no_copy })
   -- Recovery.
@@ -659,6 +661,7 @@ pub data Way (w : Part) : Part → Type 0 where
       → Way w (record w {
         heir = with_at w.heir d (Some n);
         recovery = with_at w.recovery n (Some (new_recovery d));
+        since = begun_there w.since n;
       })
   slot_reads : (n p l : ℕ) (r : Recovering) (has : ℕ → Bool) → SlotReads w n p l r has
       → Way w (record w {

@@ -1,8 +1,10 @@
 -- The broken writes of a trace that are still open, by node and sector: a started write of the node
 -- there was broken, and since then the sector wasn't decided and the node hasn't joined anew.
-use Rattle.std.specs.Prelude.{ℕ, ◌==◌, Bool, true, false, ◌&&◌, if◌then◌else◌, List, [], ◌∷◌, Option, Some, None}
+use Rattle.std.specs.Prelude.{ℕ, ◌==◌, Bool, true, false, ◌&&◌, if◌then◌else◌, List, [], ◌∷◌}
+use Rattle.std.specs.Prelude.{Option, Some, None}
 use Rattle.mdc_types.specs.declared.events.Event.{Event}
-use Rattle.mdc_types.specs.declared.events.Event.TheVariants.{Join, Out, EndWrite, BreakWrite, Settle}
+use Rattle.mdc_types.specs.declared.events.Event.TheVariants.{Join, Out, EndWrite, BreakWrite}
+use Rattle.mdc_types.specs.declared.events.Event.TheVariants.{Settle}
 use Rattle.mdc_types.specs.declared.outcomes.Entry.{Entry}
 use Rattle.mdc_types.specs.declared.outcomes.Outcome.{Outcome}
 use Rattle.mdc_types.specs.declared.outcomes.Outcome.TheVariants.{Io, Settled}
