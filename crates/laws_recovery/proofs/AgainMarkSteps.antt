@@ -1,14 +1,14 @@
 -- Each way keeps the marks of what wasn't gathered for a leg that is added again, and that no
 -- recovery has settled it.
-use Rattle.std.proofs.Common.{◌≡◌, ℕ, ◌+◌, ◌==◌, ◌<◌, ◌&&◌, ◌||◌, not, Bool, true, false, if◌then◌else◌, Option, Some, None, refl, sym, ap, subst, ◌∙◌, arith}
+use Rattle.std.proofs.Common.{◌≡◌, ℕ, ◌==◌, ◌<◌, Bool, true, false, if◌then◌else◌, Option, refl, sym, ap, subst, ◌∙◌, arith}
 use Rattle.std.specs.Prelude.{is_some}
 use Rattle.std.proofs.lemmas.Bool.Decides.{nat_tests}
 use Rattle.dlm_modes.specs.Points.{with_at}
 use Rattle.mdc_types.specs.Roles.{is_written}
 use Rattle.node_recovery.specs.Progress.{Recovering}
 use Rattle.cluster_model.specs.Gathering.{is_again_of}
-use Rattle.cluster_model.specs.State.{Adding, Held}
-use Rattle.storage_ways.proofs.Parts.{Part, chunk_in, has_pass, with_page_if}
+use Rattle.cluster_model.specs.State.{Adding}
+use Rattle.storage_ways.proofs.Parts.{Part, chunk_in, has_pass}
 use Rattle.storage_ways.proofs.Roled.{again_written}
 use Rattle.storage_ways.proofs.Ways as ways
 use Rattle.storage_ways.proofs.Ways.{Way, Gathers}
@@ -60,7 +60,7 @@ again_targets w v (ways.dies n told x) g h z a m l s j again lack gathered past 
 again_targets w v (ways.gathers n k p i has e) g h z a m l s j again lack gathered past written =
     at_point (λ y. Told y l (chunk_in w s) (place_of w (h.hold l s) (chunk_in w s)) (w.bit (h.hold l s) (chunk_in w s) j ≡ true)) w.adding n _ m
     (λ is now gathered past. a.stale.again_targets n l s j now lack (or_false ((w.adding n).gathering.gathered (chunk_in w s)) (has (chunk_in w s)) gathered)
-        (gathered_else w g h z a n k p i has e l s now lack gathered past) written)
+    (gathered_else w g h z a n k p i has e l s now lack gathered past) written)
     (λ apart. bit_before w g h z a m l s j lack written) again gathered past
 again_targets w v (ways.outs n k i x t) g h z a m l s j again lack gathered past written = a.stale.again_targets m l s j again (lacks_tried w g a.contents n k i x true t l s lack) gathered past written
 again_targets w v (ways.misses n k i x left t) g h z a m l s j again lack gathered past written = a.stale.again_targets m l s j again (lacks_tried w g a.contents n k i x left t l s lack) gathered past written

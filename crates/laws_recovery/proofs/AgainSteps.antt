@@ -1,21 +1,20 @@
 -- Each way keeps what is known of a leg that is added again: what wasn't gathered is found otherwise.
-use Rattle.std.proofs.Common.{◌≡◌, ◌≢◌, ℕ, ◌+◌, ◌*◌, ◌/◌, ◌%◌, ◌==◌, ◌<◌, ◌≤◌, ◌&&◌, ◌||◌, not, Bool, true, false, if◌then◌else◌, Option, Some, None, refl, sym, ap, subst, ◌∙◌, arith}
+use Rattle.std.proofs.Common.{◌≡◌, ◌≢◌, ℕ, ◌+◌, ◌/◌, ◌%◌, ◌==◌, ◌<◌, ◌&&◌, ◌||◌, Bool, true, false, sym, ap, subst, ◌∙◌, arith}
 use Rattle.std.specs.Prelude.{is_some}
 use Rattle.std.proofs.lemmas.Bool.Decides.{nat_tests}
 use Rattle.std.proofs.lemmas.Nat.{div-mul-add, mod-mul-add}
 use Rattle.dlm_modes.specs.Points.{with_at}
 use Rattle.mdc_types.specs.Geometry.{page_of, pages_of}
-use Rattle.mdc_types.specs.Roles.{is_written, is_faulty}
 use Rattle.mdc_types.specs.declared.events.Wish.{Wish}
 use Rattle.mdc_types.specs.declared.events.Wish.TheVariants as wishes
 use Rattle.disk_addition.specs.Additions.{after}
 use Rattle.disk_addition.specs.declared.addition.Addition.{Addition}
 use Rattle.disk_addition.specs.declared.addition.Addition.TheVariants.{Nothing}
-use Rattle.node_recovery.specs.Progress.{Recovering, begun, with_cleared, with_found, with_read}
+use Rattle.node_recovery.specs.Progress.{Recovering}
 use Rattle.slot_gathering.specs.Gatherings.{Gathering}
 use Rattle.cluster_model.specs.Finishing.{gathering_after}
 use Rattle.cluster_model.specs.Gathering.{is_again_of}
-use Rattle.cluster_model.specs.Phases.{is_up, is_metadata}
+use Rattle.cluster_model.specs.Phases.{is_metadata}
 use Rattle.cluster_model.specs.State.{Adding, Offer}
 use Rattle.laws_roles.proofs.Parts.{needs_known}
 use Rattle.storage_ways.proofs.Parts.{Part, chunk_in, found_in, is_range}
@@ -25,17 +24,16 @@ use Rattle.storage_ways.proofs.Ways.{Way, Whole, Gathers, EndsRecovery}
 use Rattle.laws_writes.proofs.Ghosts.{Ghost, ghost_after}
 use Rattle.laws_writes.proofs.Intent.{is_gathered, IsPast, place_of}
 use Rattle.laws_writes.proofs.Places.{page_lt}
-use Rattle.laws_writes.proofs.Settled.{Since, since_after}
+use Rattle.laws_writes.proofs.Settled.{Since}
 use Rattle.laws_recovery.proofs.Arms.{arm_out, arm_else, arm_begun, arm_read, arm_clear, arm_of, arm_ended}
 use Rattle.laws_recovery.proofs.Decided.{decided_else}
 use Rattle.laws_recovery.proofs.Found.{missed_found}
 use Rattle.laws_recovery.proofs.Ghosts.{Hold, hold_after}
-use Rattle.laws_recovery.proofs.HolderSteps.{goes_clean, cleared_kept, bit_marked, bit_cleared}
+use Rattle.laws_recovery.proofs.HolderSteps.{goes_clean, cleared_kept}
 use Rattle.laws_recovery.proofs.Known.{Known}
-use Rattle.laws_recovery.proofs.Lacks.{lacks_tried, lacks_copied, decides_end, decides_settle, buffer_is, lacks_below, not_there, lacked_written}
-use Rattle.laws_recovery.proofs.Marked.{wish_agreed}
-use Rattle.laws_recovery.proofs.Points.{at_point, either_if, same_point, clash, or_left_true}
-use Rattle.laws_recovery.proofs.Stale.{AgainArm, AgainTargets, AgainFresh, lacks, arm}
+use Rattle.laws_recovery.proofs.Lacks.{lacks_tried, lacks_copied, decides_end, decides_settle, buffer_is, lacks_below}
+use Rattle.laws_recovery.proofs.Points.{at_point, either_if, same_point, clash}
+use Rattle.laws_recovery.proofs.Stale.{AgainArm, lacks, arm}
 
 -- another addition is no leg that is added again
 pub not_begun : (b : Addition) (x : Wish) (l : ℕ) → needs_known x ≡ true → is_metadata x ≡ false → is_range x ≡ false → is_again_of (after b x) l ≡ true → ⊥

@@ -1,6 +1,5 @@
 -- What changes the arms: slots that are pending, and what open recoveries found.
-use Rattle.std.proofs.Common.{◌≡◌, ℕ, ◌==◌, ◌&&◌, ◌||◌, not, Bool, true, false, if◌then◌else◌, Option, Some, None, refl, sym, ap, subst, ◌∙◌, arith}
-use Rattle.std.proofs.lemmas.Bool.Decides.{nat_tests}
+use Rattle.std.proofs.Common.{◌≡◌, ℕ, ◌==◌, ◌||◌, Bool, true, false, if◌then◌else◌, Option, Some, None, refl, sym, ap, subst, ◌∙◌, arith}
 use Rattle.dlm_modes.specs.Points.{with_at}
 use Rattle.node_recovery.specs.Progress.{Recovering, begun, with_cleared, with_found, with_read}
 use Rattle.storage_ways.proofs.Parts.{found_in}

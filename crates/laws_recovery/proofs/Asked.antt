@@ -1,5 +1,5 @@
 -- The asked reads of the plain history are those in flight, along each run.
-use Rattle.std.proofs.Common.{◌≡◌, ℕ, ◌==◌, ◌&&◌, ◌≤◌, ◌<◌, Bool, true, false, if◌then◌else◌, List, [], ◌∷◌, ◌++◌, Option, Some, None, refl, sym, ap, subst, ◌∙◌, arith}
+use Rattle.std.proofs.Common.{◌≡◌, ℕ, ◌+◌, ◌==◌, ◌&&◌, ◌≤◌, Bool, true, false, if◌then◌else◌, List, [], ◌∷◌, ◌++◌, Option, Some, None, refl, sym, ap, subst, ◌∙◌, arith}
 use Rattle.std.specs.Prelude.{is_some}
 use Rattle.std.proofs.Math.Path.{fun_ext}
 use Rattle.std.proofs.lemmas.Bool.Decides.{nat_tests}
@@ -27,11 +27,11 @@ use Rattle.cluster_model.specs.After.{after}
 use Rattle.cluster_model.specs.Contents.{Opens}
 use Rattle.cluster_model.specs.Failures.{lost_or_io}
 use Rattle.cluster_model.specs.Opening.{Origin}
-use Rattle.cluster_model.specs.Outcomes.{outcome_of, outcome_read}
+use Rattle.cluster_model.specs.Outcomes.{outcome_of}
 use Rattle.cluster_model.specs.Changes.{headed}
 use Rattle.cluster_model.specs.Phases.{is_in, is_up}
-use Rattle.cluster_model.specs.Reads.{given_leg, in_done, in_guards, end_read, read_sector, reads_first}
-use Rattle.cluster_model.specs.Run.{Run, Step, Moves, Quiet, Written, Read, Failed, Left}
+use Rattle.cluster_model.specs.Reads.{given_leg, in_guards, end_read, read_sector, reads_first}
+use Rattle.cluster_model.specs.Run.{Run, Moves, Quiet, Written, Read, Failed, Left}
 use Rattle.cluster_model.specs.Transfers.{Transfer, transfer_of, in_transfer, reads_at, reads_from}
 use Rattle.cluster_model.specs.Table.{refusal}
 use Rattle.laws_roles.proofs.Known.{Known, known}
@@ -166,10 +166,10 @@ in_reads core known n k ok =
 
 read_stays : (old : State) (n k : ℕ) (o : Outcome) (new : Legs) → Known old.core → refusal old.core (events.In n k) ≡ None → Moves old (events.In n k) o new → (m j : ℕ) → Stays old.core (events.In n k) o m j
 read_stays old n k o new known ok (Quiet nothing is legs) m j = let r = in_reads old.core known n k ok in let t = r.transfer in cc
-read_stays old n k o new known ok (Written t v at value path is legs) m j = let r = in_reads old.core known n k ok in let same = sym r.transfer ∙ at in absurd (no_value t v _ same value)
+read_stays old n k o new known ok (Written t v at value path is legs) m j = let r = in_reads old.core known n k ok in absurd (no_value t v (reads_from n r.leg (place_of old.core r.read.sector)) (sym r.transfer ∙ at) refl value)
   where
-    no_value : (t : Transfer) (v : Sector) (s : Transfer) {n l p : ℕ} → Some (reads_from n l p) ≡ Some t → t.value ≡ Some v → ⊥
-    no_value t v s {n} {l} {p} e is = let same : reads_from n l p ≡ t = cc in let none = ap (λ (x : Transfer). x.value) same in cc
+    no_value : (t : Transfer) (v : Sector) (s : Transfer) → Some s ≡ Some t → s.value ≡ None → t.value ≡ Some v → ⊥
+    no_value t v s e none is = let same : s ≡ t = cc in let value = ap (λ (x : Transfer). x.value) same in cc
 read_stays old n k o new known ok (Read t v at value path gives is legs) m j = subst (λ y. Stays old.core (events.In n k) y m j) (sym is) (value_stays old.core n k t.leg v m j)
 read_stays old n k o new known ok (Failed t at is legs) m j = subst (λ y. Stays old.core (events.In n k) y m j) (sym is) (failed_stays old.core n k t m j)
 read_stays old n k o new known ok (Left t v at value path is legs) m j = subst (λ y. Stays old.core (events.In n k) y m j) (sym is) (failed_stays old.core n k t m j)

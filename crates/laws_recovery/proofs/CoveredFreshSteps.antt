@@ -1,5 +1,5 @@
 -- Each way keeps that a recovery settled nothing that a leg lacks which its pass covers.
-use Rattle.std.proofs.Common.{◌≡◌, ℕ, ◌==◌, ◌&&◌, Bool, true, false, if◌then◌else◌, Option, Some, None, refl, sym, ap, subst, ◌∙◌, arith}
+use Rattle.std.proofs.Common.{◌≡◌, ℕ, ◌==◌, Bool, true, false, if◌then◌else◌, Option, Some, None, refl, sym, ap, subst, arith}
 use Rattle.std.specs.Prelude.{is_some, option_map}
 use Rattle.dlm_modes.specs.Points.{with_at}
 use Rattle.node_recovery.specs.Progress.{Recovering}
@@ -7,7 +7,7 @@ use Rattle.resync_worker.specs.Copying.{Passing, restarted, filled, copied, sett
 use Rattle.cluster_model.specs.Changes.{no_copy}
 use Rattle.cluster_model.specs.State.{Copy}
 use Rattle.laws_roles.proofs.Parts.{covered_by}
-use Rattle.storage_ways.proofs.Parts.{Part, covers}
+use Rattle.storage_ways.proofs.Parts.{Part}
 use Rattle.storage_ways.proofs.Roled.{covers_written}
 use Rattle.storage_ways.proofs.Ways as ways
 use Rattle.storage_ways.proofs.Ways.{Way}

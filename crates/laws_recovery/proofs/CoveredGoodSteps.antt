@@ -1,7 +1,6 @@
 -- Each way keeps the marks of what a covered leg lacks and isn't to be copied any more.
-use Rattle.std.proofs.Common.{◌≡◌, ℕ, ◌+◌, ◌==◌, ◌<◌, ◌&&◌, ◌||◌, not, Bool, true, false, if◌then◌else◌, Option, Some, None, refl, sym, ap, subst, ◌∙◌, arith}
-use Rattle.std.specs.Prelude.{is_some, nat_lt, option_map}
-use Rattle.std.proofs.lemmas.Bool.Decides.{nat_tests}
+use Rattle.std.proofs.Common.{◌≡◌, ℕ, ◌==◌, Bool, true, false, if◌then◌else◌, refl, ap, subst}
+use Rattle.std.specs.Prelude.{option_map}
 use Rattle.node_recovery.specs.Progress.{Recovering}
 use Rattle.resync_worker.specs.Copying.{Passing, settled_at}
 use Rattle.cluster_model.specs.Gathering.{is_again_of}
@@ -98,7 +97,7 @@ covered_good w v (ways.passes_full n e) g h z a m l s j covered lack copied good
     (λ is covered copied. absurd (whole_todo w g h z a l s lack copied)) (λ apart. bit_before w g h z a m l s j lack good) covered copied
 covered_good w v (ways.passes_again n k e) g h z a m l s j covered lack copied good = at_point (Copies l (chunk_in w s) (w.bit (h.hold l s) (chunk_in w s) j ≡ true)) w.copy n _ m
     (λ is covered copied. let again = subst (λ y. is_again_of (w.adding n).addition y ≡ true) (same_leg k l covered) e.again in
-        a.stale.again_targets n l s j again lack copied (all_past w g h z a n k e l s again lack) (good_written w a.sound j good))
+    a.stale.again_targets n l s j again lack copied (all_past w g h z a n k e l s again lack) (good_written w a.sound j good))
     (λ apart. bit_before w g h z a m l s j lack good) covered copied
 covered_good w v (ways.marks n p i e) g h z a m l s j covered lack copied good = covered_marked w g h z a m n p i l s j true e.up covered lack copied good
 covered_good w v (ways.misses_page n p i left e) g h z a m l s j covered lack copied good = covered_marked w g h z a m n p i l s j left e.up covered lack copied good
@@ -111,15 +110,15 @@ covered_good w v (ways.misses_copy n i p b left e) g h z a m l s j covered lack 
     a.stale.covered_good m l s j covered (lacks_copied w g i b.sector b.value left (a.stale.buffer_value n b (buffer_is w n p b e.buffers)) l s lack) copied good
 covered_good w v (ways.settles n p b e) g h z a m l s j covered lack copied good = at_point (Copies l (chunk_in w s) (w.bit ((hold_after (ways.settles n p b e) g h).hold l s) (chunk_in w s) j ≡ true)) w.copy n _ m
     (λ is covered copied.
-        let before = settled_covers w g h z a n l (λ q. settled_at w.geometry q b) (w.copy n).pass (λ q e. e) covered in
-        let d = decides_settle w g a.contents a.stale.buffer_value n p b e in
-        let written = covers_written w a.sound n l before in
-        let apart = not_there w g a.sound n b.sector b.value d l s written lack in
-        decided_else w g h z a n b.sector b.value d (λ k. w.bit k (chunk_in w s) j ≡ true) l s written lack
-        (λ old. bit_mapped w g h z a (λ q. settled_at w.geometry q b) n l s j old good (λ q e. e) (still_todo w g h z a n p b e l s before old apart) covered copied))
+    let before = settled_covers w g h z a n l (λ q. settled_at w.geometry q b) (w.copy n).pass (λ q e. e) covered in
+    let d = decides_settle w g a.contents a.stale.buffer_value n p b e in
+    let written = covers_written w a.sound n l before in
+    let apart = not_there w g a.sound n b.sector b.value d l s written lack in
+    decided_else w g h z a n b.sector b.value d (λ k. w.bit k (chunk_in w s) j ≡ true) l s written lack
+    (λ old. bit_mapped w g h z a (λ q. settled_at w.geometry q b) n l s j old good (λ q e. e) (still_todo w g h z a n p b e l s before old apart) covered copied))
     (λ other covered copied.
-        decided_else w g h z a n b.sector b.value (decides_settle w g a.contents a.stale.buffer_value n p b e) (λ k. w.bit k (chunk_in w s) j ≡ true) l s (covers_written w a.sound m l covered) lack
-        (λ old. a.stale.covered_good m l s j covered old copied good)) covered copied
+    decided_else w g h z a n b.sector b.value (decides_settle w g a.contents a.stale.buffer_value n p b e) (λ k. w.bit k (chunk_in w s) j ≡ true) l s (covers_written w a.sound m l covered) lack
+    (λ old. a.stale.covered_good m l s j covered old copied good)) covered copied
 covered_good w v (ways.ends_pass n e) g h z a m l s j covered lack copied good = at_point (Copies l (chunk_in w s) (w.bit (h.hold l s) (chunk_in w s) j ≡ true)) w.copy n _ m
     (λ is e. cc) (λ apart. bit_before w g h z a m l s j lack good) covered copied
 covered_good w v (ways.slot_clears n p i r e) g h z a m l s j covered lack copied good = covered_cleared w g h z a m n p i l s j r true e covered lack copied good

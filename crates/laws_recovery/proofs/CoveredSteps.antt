@@ -1,15 +1,14 @@
 -- Each way keeps an arm for what a covered leg lacks and isn't to be copied any more.
-use Rattle.std.proofs.Common.{◌≡◌, ℕ, ◌+◌, ◌==◌, ◌<◌, ◌&&◌, ◌||◌, not, Bool, true, false, if◌then◌else◌, Option, Some, None, refl, sym, ap, subst, ◌∙◌, arith}
-use Rattle.std.specs.Prelude.{is_some, nat_lt, option_map}
+use Rattle.std.proofs.Common.{◌≡◌, ℕ, ◌==◌, Bool, true, false, Option, Some, None, refl, subst, arith}
+use Rattle.std.specs.Prelude.{option_map}
 use Rattle.std.proofs.lemmas.Bool.Decides.{nat_tests}
 use Rattle.dlm_modes.specs.Points.{with_at}
-use Rattle.node_recovery.specs.Progress.{Recovering}
 use Rattle.resync_worker.specs.Copying.{Passing, settled_at}
 use Rattle.cluster_model.specs.Changes.{no_copy}
 use Rattle.cluster_model.specs.Gathering.{is_again_of}
 use Rattle.cluster_model.specs.State.{Copy}
 use Rattle.laws_roles.proofs.Parts.{covered_by}
-use Rattle.storage_ways.proofs.Parts.{Part, chunk_in, todo, todo_in, covers}
+use Rattle.storage_ways.proofs.Parts.{Part, chunk_in, todo, covers}
 use Rattle.storage_ways.proofs.Roled.{covers_written}
 use Rattle.storage_ways.proofs.Ways as ways
 use Rattle.storage_ways.proofs.Ways.{Way}
@@ -21,8 +20,8 @@ use Rattle.laws_recovery.proofs.Decided.{decided_else}
 use Rattle.laws_recovery.proofs.Found.{covered_found, covered_kept}
 use Rattle.laws_recovery.proofs.Ghosts.{Hold, hold_after}
 use Rattle.laws_recovery.proofs.Known.{Known}
-use Rattle.laws_recovery.proofs.Lacks.{lacks_tried, lacks_copied, decides_end, decides_settle, buffer_is, not_there, lacked_written}
-use Rattle.laws_recovery.proofs.Points.{at_point, either_if, same_point, clash, and_left}
+use Rattle.laws_recovery.proofs.Lacks.{lacks_tried, lacks_copied, decides_end, decides_settle, buffer_is, not_there}
+use Rattle.laws_recovery.proofs.Points.{at_point, either_if, same_point, and_left}
 use Rattle.laws_recovery.proofs.Stale.{CoveredArm, lacks, arm}
 
 -- what a node's copying tells of a covered leg
@@ -89,7 +88,7 @@ covered_arm w v (ways.passes_full n e) g h z a m l s covered lack copied = at_po
     (λ is covered copied. absurd (whole_todo w g h z a l s lack copied)) (λ apart. arm_before w g h z a m l s lack) covered copied
 covered_arm w v (ways.passes_again n k e) g h z a m l s covered lack copied = at_point (Copies l (chunk_in w s) (arm w (h.hold l s) (chunk_in w s) ≡ true)) w.copy n _ m
     (λ is covered copied. let again = subst (λ j. is_again_of (w.adding n).addition j ≡ true) (same_leg k l covered) e.again in
-        a.stale.again_arm n l s again lack copied (all_past w g h z a n k e l s again lack))
+    a.stale.again_arm n l s again lack copied (all_past w g h z a n k e l s again lack))
     (λ apart. arm_before w g h z a m l s lack) covered copied
 covered_arm w v (ways.fills n t i u p r e) g h z a m l s covered lack copied = at_point (Copies l (chunk_in w s) (arm w (h.hold l s) (chunk_in w s) ≡ true)) w.copy n _ m
     (λ is. arm_mapped w g h z a _ n l s lack (λ p e. e) (λ p e. e)) (λ apart. arm_before w g h z a m l s lack) covered copied
@@ -100,22 +99,22 @@ covered_arm w v (ways.misses_copy n i p b left e) g h z a m l s covered lack cop
     a.stale.covered_arm m l s covered (lacks_copied w g i b.sector b.value left (a.stale.buffer_value n b (buffer_is w n p b e.buffers)) l s lack) copied
 covered_arm w v (ways.settles n p b e) g h z a m l s covered lack copied = at_point (Copies l (chunk_in w s) (arm w ((hold_after (ways.settles n p b e) g h).hold l s) (chunk_in w s) ≡ true)) w.copy n _ m
     (λ is covered copied.
-        let before = settled_covers w g h z a n l (λ q. settled_at w.geometry q b) (w.copy n).pass (λ q e. e) covered in
-        let d = decides_settle w g a.contents a.stale.buffer_value n p b e in
-        let written = covers_written w a.sound n l before in
-        let apart = not_there w g a.sound n b.sector b.value d l s written lack in
-        decided_else w g h z a n b.sector b.value d (λ j. arm w j (chunk_in w s) ≡ true) l s written lack
-        (λ old. arm_mapped w g h z a (λ q. settled_at w.geometry q b) n l s old (λ q e. e) (still_todo w g h z a n p b e l s before old apart) covered copied))
+    let before = settled_covers w g h z a n l (λ q. settled_at w.geometry q b) (w.copy n).pass (λ q e. e) covered in
+    let d = decides_settle w g a.contents a.stale.buffer_value n p b e in
+    let written = covers_written w a.sound n l before in
+    let apart = not_there w g a.sound n b.sector b.value d l s written lack in
+    decided_else w g h z a n b.sector b.value d (λ j. arm w j (chunk_in w s) ≡ true) l s written lack
+    (λ old. arm_mapped w g h z a (λ q. settled_at w.geometry q b) n l s old (λ q e. e) (still_todo w g h z a n p b e l s before old apart) covered copied))
     (λ other covered copied.
-        decided_else w g h z a n b.sector b.value (decides_settle w g a.contents a.stale.buffer_value n p b e) (λ j. arm w j (chunk_in w s) ≡ true) l s (covers_written w a.sound m l covered) lack
-        (λ old. a.stale.covered_arm m l s covered old copied)) covered copied
+    decided_else w g h z a n b.sector b.value (decides_settle w g a.contents a.stale.buffer_value n p b e) (λ j. arm w j (chunk_in w s) ≡ true) l s (covers_written w a.sound m l covered) lack
+    (λ old. a.stale.covered_arm m l s covered old copied)) covered copied
 covered_arm w v (ways.ends_pass n e) g h z a m l s covered lack copied = at_point (Copies l (chunk_in w s) (arm w (h.hold l s) (chunk_in w s) ≡ true)) w.copy n _ m
     (λ is e. cc) (λ apart. arm_before w g h z a m l s lack) covered copied
 covered_arm w v (ways.recovers_slot n d e) g h z a m l s covered lack copied = arm_begun w.pending w.recovery n d (h.hold l s) (chunk_in w s) e.recovery (a.stale.covered_arm m l s covered lack copied)
 covered_arm w v (ways.slot_reads n p i r has e) g h z a m l s covered lack copied = arm_read w.pending w.recovery n p i (h.hold l s) (chunk_in w s) r has e.opened.recovery (a.stale.covered_arm m l s covered lack copied)
 covered_arm w v (ways.slot_clears n p i r e) g h z a m l s covered lack copied = either_if (λ j. arm v j (chunk_in w s) ≡ true) (h.hold l s == r.slot) n (h.hold l s)
     (λ is. arm_clear w.pending w.recovery n p i n (chunk_in w s) r e.all.opened.recovery
-        (arm_of w.pending w.recovery n (chunk_in w s) r e.all.opened.recovery (covered_found w g h z a n m l s r e.all covered lack copied (same_point (h.hold l s) r.slot is))))
+    (arm_of w.pending w.recovery n (chunk_in w s) r e.all.opened.recovery (covered_found w g h z a n m l s r e.all covered lack copied (same_point (h.hold l s) r.slot is))))
     (λ apart. arm_clear w.pending w.recovery n p i (h.hold l s) (chunk_in w s) r e.all.opened.recovery (a.stale.covered_arm m l s covered lack copied))
 covered_arm w v (ways.misses_slot n p i r left e) g h z a m l s covered lack copied = either_if (λ j. arm w j (chunk_in w s) ≡ true) (h.hold l s == r.slot) n (h.hold l s)
     (λ is. arm_of w.pending w.recovery n (chunk_in w s) r e.all.opened.recovery (covered_found w g h z a n m l s r e.all covered lack copied (same_point (h.hold l s) r.slot is)))

@@ -1,25 +1,22 @@
 -- What passes cover, and what they have still to copy.
-use Rattle.std.proofs.Common.{◌≡◌, ◌≢◌, ℕ, suc, ◌+◌, ◌*◌, ◌==◌, ◌<◌, ◌≤◌, ◌&&◌, ◌||◌, not, Bool, true, false, if◌then◌else◌, Option, Some, None, refl, sym, ap, subst, ◌∙◌, arith}
+use Rattle.std.proofs.Common.{◌≡◌, ◌≢◌, ℕ, suc, ◌+◌, ◌*◌, ◌==◌, ◌<◌, ◌≤◌, ◌&&◌, ◌||◌, not, Bool, true, false, Option, Some, None, refl, sym, ap, subst, ◌∙◌, arith}
 use Rattle.std.specs.Prelude.{is_some, nat_lt, option_map}
 use Rattle.std.proofs.Math.Nat.{mul-le-mul_right, suc-mul}
 use Rattle.std.proofs.lemmas.Bool.Decides.{nat_tests}
 use Rattle.mdc_types.specs.Geometry.{chunk_of, chunks_of, nodes_of, page_of, pages_of}
 use Rattle.mdc_types.specs.declared.roles.NodeState.{NodeState}
 use Rattle.mdc_types.specs.declared.roles.NodeState.TheVariants as states
-use Rattle.leg_failure.specs.Views.{is_target}
 use Rattle.node_recovery.specs.Progress.{Recovering}
 use Rattle.resync_worker.specs.Copying.{Passing, settled_at}
 use Rattle.resync_worker.specs.Sectors.{ends_chunk}
 use Rattle.resync_worker.specs.declared.buffer.Buffer.{Buffer}
-use Rattle.slot_gathering.specs.Gatherings.{all_pages}
 use Rattle.cluster_model.specs.Gathering.{is_again_of}
 use Rattle.cluster_model.specs.Guards.{is_out}
-use Rattle.cluster_model.specs.Phases.{is_up}
-use Rattle.cluster_model.specs.State.{Copy, Held}
+use Rattle.cluster_model.specs.State.{Held}
 use Rattle.laws_roles.proofs.Parts.{covered_by}
 use Rattle.storage_ways.proofs.Parts.{Part, chunk_in, covers, todo, todo_in, has_pass, found_in}
 use Rattle.storage_ways.proofs.Roled.{good_target}
-use Rattle.storage_ways.proofs.Ways.{Settles, PassesAgain, Passes, Going, AllRead, SlotClears, EndsRecovery}
+use Rattle.storage_ways.proofs.Ways.{Settles, PassesAgain, Going, SlotClears, EndsRecovery}
 use Rattle.laws_writes.proofs.Ghosts.{Ghost}
 use Rattle.laws_writes.proofs.Contents.{is_stale}
 use Rattle.laws_writes.proofs.Intent.{place_of}
@@ -30,7 +27,7 @@ use Rattle.laws_recovery.proofs.Found.{reads_working, covered_found}
 use Rattle.laws_recovery.proofs.Ghosts.{Hold}
 use Rattle.laws_recovery.proofs.Known.{Known}
 use Rattle.laws_recovery.proofs.Lacks.{lacks_below}
-use Rattle.laws_recovery.proofs.Points.{clash, same_point, and_left}
+use Rattle.laws_recovery.proofs.Points.{clash, same_point}
 use Rattle.laws_recovery.proofs.Stale.{lacks, arm}
 
 -- what a pass tells of a covered leg and a chunk that isn't to be copied

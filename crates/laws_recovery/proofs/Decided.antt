@@ -1,6 +1,6 @@
 -- Who answers for what a leg missed, where a sector is decided.
-use Rattle.std.proofs.Common.{◌≡◌, ℕ, ◌==◌, ◌&&◌, ◌||◌, not, Bool, true, false, Option, Some, None, refl, sym, ap, subst, ◌∙◌, arith}
-use Rattle.mdc_types.specs.Roles.{is_working, is_written}
+use Rattle.std.proofs.Common.{◌≡◌, ℕ, ◌==◌, ◌&&◌, ◌||◌, true, sym, subst}
+use Rattle.mdc_types.specs.Roles.{is_written}
 use Rattle.mdc_types.specs.declared.numbers.Sector.{Sector}
 use Rattle.storage_ways.proofs.Parts.{Part, chunk_in, recovers, found_in}
 use Rattle.laws_writes.proofs.Ghosts.{Ghost, undecided, with_value}

@@ -1,27 +1,25 @@
 -- At a sound opening no leg that works is stale, and a pending slot answers for what a faulty leg lacks.
-use Rattle.std.proofs.Common.{zero, suc, ◌≡◌, ◌⊎◌, inl, inr, ℕ, ◌<◌, ◌≤◌, ◌+◌, ◌==◌, ◌&&◌, ◌||◌, not, if◌then◌else◌, Bool, true, false, length, List, [], ◌∷◌, Option, Some, None, refl, sym, ap, subst, ◌∙◌, arith}
-use Rattle.std.specs.Prelude.{nat_lt, nat_le, get_or, is_some, replicate, unwrap_or}
-use Rattle.std.specs.Str.{bytes_eq}
+use Rattle.std.proofs.Common.{zero, suc, ◌≡◌, inl, inr, ℕ, ◌<◌, ◌≤◌, ◌+◌, ◌==◌, ◌&&◌, ◌||◌, not, if◌then◌else◌, Bool, true, false, List, [], ◌∷◌, Option, refl, sym, ap, subst, ◌∙◌, arith}
+use Rattle.std.specs.Prelude.{nat_lt, nat_le, get_or, unwrap_or}
 use Rattle.std.proofs.lemmas.Bool.{cases_lt}
 use Rattle.std.proofs.lemmas.Bool.Decides.{nat_tests}
 use Rattle.std.proofs.lemmas.List.{get_or-replicate}
 use Rattle.slot_pages.proofs.GrammarLaws.{no_bit}
-use Rattle.dlm_modes.specs.First.{each_such, first_such}
+use Rattle.dlm_modes.specs.First.{first_such}
 use Rattle.mdc_types.specs.Bits.{has_bit}
-use Rattle.mdc_types.specs.Geometry.{Sizes, nodes_of, chunks_of, chunk_of, data_offset, data_offset_of, length_of}
+use Rattle.mdc_types.specs.Geometry.{nodes_of, chunks_of, chunk_of, data_offset, data_offset_of}
 use Rattle.mdc_types.specs.Roles.{role_of, eight, is_working, is_faulty}
 use Rattle.mdc_types.specs.Sectors.{zero_sector}
 use Rattle.mdc_types.specs.declared.numbers.Sector.{Sector}
 use Rattle.mdc_types.specs.declared.roles.Role.{Role}
-use Rattle.mdc_types.specs.declared.roles.Role.TheVariants.{Working, Spare, Faulty}
 use Rattle.md_superblock.specs.Arrays.{Says, spelled, super_for}
-use Rattle.plain_history.specs.History.{values_at, IsIn}
+use Rattle.plain_history.specs.History.{values_at}
 use Rattle.cluster_model.specs.State.{State, Legs}
 use Rattle.cluster_model.specs.Stored.{bit_on, data_on}
-use Rattle.cluster_model.specs.Opening.{Origin, IsOrigin, header_role, header_at, array_of, says_of}
-use Rattle.cluster_model.specs.Contents.{Opens, IsHeader, IsImages, AllTell, SoundOpening, MarksOnAll, works_at, some_mark, is_marked_slot, values_on, with_new, header_sector, slot_sector}
+use Rattle.cluster_model.specs.Opening.{Origin, header_role, array_of, says_of}
+use Rattle.cluster_model.specs.Contents.{IsHeader, SoundOpening, MarksOnAll, works_at, some_mark, is_marked_slot, values_on, with_new, header_sector, slot_sector}
 use Rattle.laws_roles.proofs.InState.{working_role, faulty_role}
-use Rattle.storage_ways.proofs.Parts.{Part}
+use Rattle.laws_roles.specs.Laws.{Tells}
 use Rattle.laws_writes.proofs.Ghosts.{is_among, same_sector}
 use Rattle.laws_writes.proofs.First.{First}
 use Rattle.laws_writes.proofs.FirstKeepers.{first_ghost, first_keeper, first_values, marks_all, each_one, each_from, found_one, found_passes, given_or, or_given, working_below}
@@ -30,7 +28,7 @@ use Rattle.laws_writes.proofs.Settled.{Since, Settled}
 use Rattle.laws_writes.proofs.Values.{in_among}
 use Rattle.laws_recovery.proofs.Ghosts.{Hold}
 use Rattle.laws_recovery.proofs.Points.{clash}
-use Rattle.laws_recovery.proofs.Stale.{Stale, lacks}
+use Rattle.laws_recovery.proofs.Stale.{Stale}
 use Rattle.laws_recovery.proofs.Values.{same_self}
 
 -- The values of images.
@@ -156,7 +154,7 @@ module _ (o : Origin) (start : State) (sound : SoundOpening o start) where
       right : (b : Bool) → (true && not b) ≡ true → b ≡ false
       right b e = grind arith
 
-      by : (b : Bool) → nat_lt s o.sizes.room ≡ b → (b && not (is_among (data_on o.sizes start.legs l s) (if b then values_at o.base s else []))) ≡ true → is_among (data_on o.sizes start.legs l s) (get_or o.base s []) ≡ false
+      by : (b : Bool) → nat_lt s o.sizes.room ≡ b → (b && not (is_among (data_on o.sizes start.legs l s) (if b then values_at o.base s else zero_sector ∷ []))) ≡ true → is_among (data_on o.sizes start.legs l s) (get_or o.base s []) ≡ false
       by true t e = right (is_among (data_on o.sizes start.legs l s) (values_at o.base s)) e
       by false t e = cc
 
@@ -213,7 +211,7 @@ module _ (o : Origin) (start : State) (sound : SoundOpening o start) where
     | inr h ↦ ap (λ m. has_bit m (first_keeper o start.legs s)) h.nobody.0 ∙ no_bit (first_keeper o start.legs s)
   ]
 
-module _ (o : Origin) (start : State) (sound : SoundOpening o start) (sup : ℕ → Option Says) (home : ℕ) where
+module _ (o : Origin) (start : State) (sound : SoundOpening o start) (tells : Tells o start) (sup : ℕ → Option Says) (home : ℕ) where
   or_second : (a b : Bool) → b ≡ true → (a || b) ≡ true
   or_second a b e = grind arith
 
@@ -223,7 +221,7 @@ module _ (o : Origin) (start : State) (sound : SoundOpening o start) (sup : ℕ 
   abbrev pub first_since : Since
   first_since = record { since = λ n s. false }
 
-  pub first_stale : Stale (First o start sound sup home) (first_ghost o start.legs) first_hold first_since
+  pub first_stale : Stale (First o start sound tells sup home) (first_ghost o start.legs) first_hold first_since
   first_stale = record {
     not_stale = λ l s good. first_fresh o start sound l s good;
     buffer_value = λ n b e. cc;
@@ -240,7 +238,7 @@ module _ (o : Origin) (start : State) (sound : SoundOpening o start) (sup : ℕ 
     covered_fresh = λ n l s e lack some. cc;
   }
 
-  pub first_settled : Settled (First o start sound sup home) first_since
+  pub first_settled : Settled (First o start sound tells sup home) first_since
   first_settled = record {
     since_pass = λ n s some e. cc;
     since_settled = λ n s some e. cc;

@@ -1,13 +1,10 @@
 -- What a slot answers for is found by its recoverer and marked by it, before anything is cleared.
-use Rattle.std.proofs.Common.{◌≡◌, ℕ, ◌==◌, ◌<◌, ◌&&◌, ◌||◌, not, Bool, true, false, Option, Some, None, refl, sym, ap, subst, ◌∙◌, arith}
-use Rattle.std.specs.Prelude.{is_some}
+use Rattle.std.proofs.Common.{◌≡◌, ℕ, ◌||◌, Bool, true, false, Some, refl, sym, ap, subst, ◌∙◌, arith}
 use Rattle.std.proofs.lemmas.Bool.Decides.{nat_tests}
 use Rattle.mdc_types.specs.Geometry.{page_of}
 use Rattle.mdc_types.specs.Roles.{is_working, is_written, is_faulty}
-use Rattle.mdc_types.specs.declared.roles.Role.{Role}
 use Rattle.mdc_types.specs.declared.roles.NodeState.{NodeState}
 use Rattle.mdc_types.specs.declared.roles.NodeState.TheVariants as states
-use Rattle.leg_failure.specs.Views.{is_target}
 use Rattle.disk_addition.specs.Additions.{after, rebuilt}
 use Rattle.disk_addition.specs.Wishes.{is_readd}
 use Rattle.disk_addition.specs.declared.addition.Addition.{Addition}

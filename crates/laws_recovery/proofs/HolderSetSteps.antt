@@ -1,9 +1,9 @@
 -- Each way keeps in the set of a live node, or of a recoverer that found it, what a leg missed.
-use Rattle.std.proofs.Common.{◌≡◌, ℕ, ◌==◌, ◌&&◌, ◌||◌, not, Bool, true, false, if◌then◌else◌, Option, Some, None, refl, sym, ap, subst, ◌∙◌, arith}
+use Rattle.std.proofs.Common.{◌≡◌, ℕ, ◌==◌, ◌||◌, Bool, true, false, if◌then◌else◌, Option, Some, None, refl, sym, ap, subst, ◌∙◌, arith}
 use Rattle.std.proofs.lemmas.Bool.Decides.{nat_tests}
 use Rattle.dlm_modes.specs.Points.{with_at}
 use Rattle.mdc_types.specs.Geometry.{Sizes}
-use Rattle.mdc_types.specs.Roles.{is_faulty, is_rebuilding}
+use Rattle.mdc_types.specs.Roles.{is_faulty}
 use Rattle.disk_addition.specs.Additions.{after}
 use Rattle.node_bitmaps.specs.Bitmap.{Bitmap, found_page}
 use Rattle.node_recovery.specs.Progress.{Recovering, with_cleared, with_read, with_found}

@@ -1,5 +1,5 @@
 -- Which events change the reads in flight: the others leave them alone.
-use Rattle.std.proofs.Common.{◌≡◌, ℕ, Bool, true, false, if◌then◌else◌, not, ◌&&◌, List, Option, Some, None, refl, ap, ◌∙◌, arith}
+use Rattle.std.proofs.Common.{◌≡◌, ℕ, Bool, true, false, if◌then◌else◌, not, ◌&&◌, Option, Some, None, refl, ◌∙◌}
 use Rattle.mdc_types.specs.declared.events.Event.{Event}
 use Rattle.mdc_types.specs.declared.events.Event.TheVariants as events
 use Rattle.mdc_types.specs.declared.events.Wish.{Wish}
@@ -20,7 +20,6 @@ use Rattle.cluster_msgs.specs.declared.msg.Body.{Body}
 use Rattle.cluster_msgs.specs.declared.msg.Body.TheVariants as bodies
 use Rattle.msg_rounds.specs.declared.phases.SenderPhase.{SenderPhase}
 use Rattle.msg_rounds.specs.declared.phases.SenderPhase.TheVariants as senders
-use Rattle.mirror_io.specs.declared.live.LiveWrite.{LiveWrite}
 use Rattle.node_recovery.specs.Progress.{Recovering}
 use Rattle.resync_worker.specs.declared.buffer.Buffer.{Buffer}
 use Rattle.cluster_model.specs.State.{Core, Offer}
@@ -38,7 +37,8 @@ use Rattle.cluster_model.specs.Publishing.{publish_offer, publish_wish, block_of
 use Rattle.msg_rounds.specs.Locks.{published}
 use Rattle.cluster_model.specs.Receiving.{view_resumed, told_state}
 use Rattle.cluster_model.specs.Recovering.{page_found, page_cleared, slot_recovered, slot_read}
-use Rattle.cluster_model.specs.Writes.{out_done, write_ended}
+use Rattle.cluster_model.specs.Writes.{out_done, write_ended, write_sector}
+use Rattle.mirror_io.specs.Flight.{write_in}
 use Rattle.cluster_model.specs.Rounds.{quit_from}
 use Rattle.cluster_model.specs.Transfers.{Transfer, transfer_of}
 
@@ -159,7 +159,7 @@ headed_kept core n l None = refl
 headed_kept core n l (Some s) = refl
 
 out_kept : (core : Core) (n k l : ℕ) → Kept core (out_done core n k l)
-out_kept core n k l = refl
+out_kept core n k l = headed_kept core n l (write_sector (write_in k (core.writes n)))
 
 ended_kept : (core : Core) (n k : ℕ) (b : Bool) → Kept core (write_ended core n k b)
 ended_kept core n k b = refl

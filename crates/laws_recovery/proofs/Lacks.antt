@@ -1,26 +1,24 @@
 -- What a leg lacks after a try, a copy or a decision.
-use Rattle.std.proofs.Common.{◌≡◌, ℕ, ◌<◌, ◌==◌, ◌&&◌, Bool, true, false, not, if◌then◌else◌, List, [], ◌∷◌, ◌++◌, Option, Some, None, refl, sym, ap, subst, ◌∙◌, arith}
+use Rattle.std.proofs.Common.{◌≡◌, ℕ, ◌<◌, ◌==◌, ◌&&◌, Bool, true, false, not, List, Some, refl, sym, ap, ◌∙◌, arith}
 use Rattle.std.specs.Prelude.{nat_lt}
 use Rattle.std.proofs.lemmas.Bool.Decides.{nat_tests}
-use Rattle.mdc_types.specs.Bits.{has_bit}
 use Rattle.mdc_types.specs.Roles.{is_working, is_written}
 use Rattle.mdc_types.specs.declared.numbers.Sector.{Sector}
 use Rattle.mdc_types.specs.declared.roles.Role.{Role}
-use Rattle.leg_failure.specs.Views.{works, is_target}
-use Rattle.mirror_io.specs.Flight.{write_in, is_done}
+use Rattle.leg_failure.specs.Views.{is_target}
 use Rattle.mirror_io.specs.declared.live.LiveWrite.{LiveWrite}
 use Rattle.resync_worker.specs.Copying.{Passing}
 use Rattle.resync_worker.specs.declared.buffer.Buffer.{Buffer}
 use Rattle.cluster_model.specs.Phases.{is_in, is_up}
 use Rattle.storage_ways.proofs.Parts.{Part, buffer_in, done_there, has_started, read_leg, with_data_if}
-use Rattle.storage_ways.proofs.Roled.{acked_works, written_target, up_served_good, good_written}
+use Rattle.storage_ways.proofs.Roled.{acked_works, written_target, up_served_good}
 use Rattle.storage_ways.proofs.Sound.{Sound}
 use Rattle.storage_ways.proofs.Ways.{Acked, Trying, Finishing, Settles, Buffers}
-use Rattle.laws_writes.proofs.Ghosts.{Ghost, undecided, is_among, is_open, with_try, with_value}
+use Rattle.laws_writes.proofs.Ghosts.{Ghost, undecided, is_among, with_try, with_value}
 use Rattle.laws_writes.proofs.Contents.{Contents, is_stale}
 use Rattle.laws_recovery.proofs.Points.{and_left}
 use Rattle.laws_recovery.proofs.Stale.{lacks, BufferValue}
-use Rattle.laws_recovery.proofs.Values.{same_self, same_is, only_value, stale_tried}
+use Rattle.laws_recovery.proofs.Values.{same_self, only_value, stale_tried}
 
 both : (a b c : Bool) → (b ≡ true → c ≡ true) → (a && b) ≡ true → (a && c) ≡ true
 both a b c f e = grind (arith, f)

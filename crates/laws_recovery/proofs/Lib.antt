@@ -22,3 +22,7 @@ pub mod InState
 pub mod FirstStale
 pub mod KeptReads
 pub mod Asked
+pub mod Recovered
+pub mod Runs
+pub mod Legal
+pub mod Promises

@@ -1,11 +1,9 @@
 -- What an offer changes of the ghosts of roles, and a page of the bits.
-use Rattle.std.proofs.Common.{◌≡◌, ℕ, ◌==◌, ◌&&◌, ◌||◌, not, Bool, true, false, if◌then◌else◌, refl, sym, ap, subst, ◌∙◌, arith}
+use Rattle.std.proofs.Common.{◌≡◌, ℕ, ◌==◌, ◌||◌, Bool, true, false, if◌then◌else◌, refl, arith}
 use Rattle.std.proofs.lemmas.Bool.Decides.{nat_tests}
-use Rattle.mdc_types.specs.Geometry.{page_of}
 use Rattle.mdc_types.specs.declared.events.Wish.{Wish}
 use Rattle.cluster_model.specs.Phases.{is_metadata}
 use Rattle.laws_roles.proofs.Parts.{Ghost, with_wish, with_promoted, promotes}
-use Rattle.laws_roles.specs.Agreed.{Agreed}
 use Rattle.storage_ways.proofs.Parts.{with_page_if}
 
 pub wish_missed : (g : Ghost) (x : Wish) (l : ℕ) → (with_wish g x).missed l ≡ g.missed l

@@ -1,5 +1,5 @@
 -- Stale legs: no good leg is stale, and a slot answers for what another missed, until it is copied.
-use Rattle.std.specs.Prelude.{◌≡◌, ℕ, ◌<◌, nat_lt, Bool, true, false, ◌&&◌, ◌||◌, Option, Some, is_some}
+use Rattle.std.specs.Prelude.{◌≡◌, ℕ, ◌<◌, nat_lt, Bool, true, false, ◌&&◌, ◌||◌, Some, is_some}
 use Rattle.mdc_types.specs.Roles.{is_working, is_faulty, is_written}
 use Rattle.resync_worker.specs.declared.buffer.Buffer.{Buffer}
 use Rattle.cluster_model.specs.Gathering.{is_again_of}

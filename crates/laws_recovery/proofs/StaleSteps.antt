@@ -3,21 +3,18 @@ use Rattle.std.proofs.Common.{◌≡◌, ℕ, ◌==◌, ◌&&◌, ◌||◌, Bool
 use Rattle.std.specs.Prelude.{is_some, nat_lt, option_map}
 use Rattle.std.proofs.lemmas.Bool.Decides.{nat_tests}
 use Rattle.mdc_types.specs.Geometry.{Sizes}
-use Rattle.mdc_types.specs.Roles.{is_rebuilding}
 use Rattle.mdc_types.specs.declared.numbers.Range.{Range}
 use Rattle.mdc_types.specs.declared.numbers.Sector.{Sector}
-use Rattle.leg_failure.specs.Views.{NodeView}
 use Rattle.mirror_io.specs.Flight.{write_in}
 use Rattle.mirror_io.specs.declared.live.LiveWrite.{LiveWrite}
 use Rattle.node_recovery.specs.Progress.{Recovering}
 use Rattle.resync_worker.specs.Copying.{Passing, restarted, settled_at, covering_only, filled, copied, done_on}
 use Rattle.resync_worker.specs.declared.buffer.Buffer.{Buffer}
 use Rattle.cluster_model.specs.State.{Offer, Copy}
-use Rattle.cluster_model.specs.Changes.{covering}
 use Rattle.cluster_model.specs.Copying.{next_for}
 use Rattle.laws_sound.proofs.CopySteps.{next_below}
-use Rattle.storage_ways.proofs.Parts.{Part, chunk_in, todo, todo_in, covers, found_in, buffer_in, writes_at}
-use Rattle.storage_ways.proofs.Roled.{good_written, served_good, up_served_good}
+use Rattle.storage_ways.proofs.Parts.{Part, chunk_in, todo, todo_in, found_in, buffer_in, writes_at}
+use Rattle.storage_ways.proofs.Roled.{good_written, up_served_good}
 use Rattle.storage_ways.proofs.Ways as ways
 use Rattle.storage_ways.proofs.Ways.{Way, Offering, Fills}
 use Rattle.laws_roles.proofs.Parts.{promotes}
@@ -26,10 +23,10 @@ use Rattle.laws_writes.proofs.FreeSectors.{next_free}
 use Rattle.laws_writes.proofs.Settled.{Since}
 use Rattle.laws_recovery.proofs.Ghosts.{Hold}
 use Rattle.laws_recovery.proofs.Known.{Known}
-use Rattle.laws_recovery.proofs.Lacks.{lacks_tried, lacks_copied, decides_end, decides_settle, lacked_written, buffer_is, Decides}
+use Rattle.laws_recovery.proofs.Lacks.{lacks_tried, lacks_copied, decides_end, decides_settle, lacked_written, buffer_is}
 use Rattle.laws_recovery.proofs.Stale.{NotStale, BufferValue, lacks, arm}
 use Rattle.laws_recovery.proofs.Marked.{apart_sym}
-use Rattle.laws_recovery.proofs.Points.{at_point, either_if, fails, clash}
+use Rattle.laws_recovery.proofs.Points.{at_point, fails, clash}
 use Rattle.laws_recovery.proofs.Values.{among_more}
 
 found_some : (x : Option Recovering) (c : ℕ) → found_in x c ≡ true → is_some x ≡ true

@@ -17,12 +17,14 @@ use Rattle.cluster_model.specs.State.{State, Offer, sizes}
 use Rattle.cluster_model.specs.Copying.{buffer_of}
 use Rattle.cluster_model.specs.Served.{NoTrustedLegIsStale, Missed, Marked, MarkedOnTrusted, Stale}
 use Rattle.cluster_model.specs.Stored.{data_on}
+use Rattle.storage_ways.specs.Since.{since_in}
 use Rattle.laws_roles.specs.Agreed.{Agreed, agreed_in}
 use Rattle.laws_writes.specs.Laws.{Always}
 
 -- no leg that may be read is stale at any sector
 abbrev pub RunsServeNoStaleLeg : Type 0
-RunsServeNoStaleLeg = Always (λ o start past end. NoTrustedLegIsStale end (candidates (values_at o.base) past))
+RunsServeNoStaleLeg = Always
+    (λ o start past end. NoTrustedLegIsStale end (candidates (values_at o.base) past))
 
 -- what a faulty leg missed is marked in one slot on each leg that may be read
 abbrev pub RunsMarkWhatIsMissed : Type 0
@@ -71,7 +73,8 @@ RunsRebuild = Always (λ o start past end. RebuildHolds (candidates (values_at o
 -- how a chunk is found that the leg missed: it was gathered, or will be, or is copied otherwise
 pub data IsFound (agreed : Agreed) (state : State) (n k c : ℕ) : Type 0 where
   was_gathered : (state.core.adding n).gathering.gathered c ≡ true → IsFound agreed state n k c
-  will_be_gathered : (state.core.adding n).gathering.next ≤ k * pages_of (sizes state.core) + page_of c
+  will_be_gathered :
+      (state.core.adding n).gathering.next ≤ k * pages_of (sizes state.core) + page_of c
       → IsFound agreed state n k c
   slot_found : state.core.members.pending k ≡ true
       → ((l : ℕ) → is_written (agreed.role l) ≡ true → Marked state k c l)
@@ -91,4 +94,22 @@ AgainHolds agreed values state = (n l s : ℕ) → (state.core.adding n).additio
     → s < (sizes state.core).room → Stale state values l s → Answers agreed state n s
 
 abbrev pub RunsAddAgain : Type 0
-RunsAddAgain = Always (λ o start past end. AgainHolds (agreed_in o past) (candidates (values_at o.base) past) end)
+RunsAddAgain = Always
+    (λ o start past end. AgainHolds (agreed_in o past) (candidates (values_at o.base) past) end)
+
+-- An open recovery.
+
+-- its slot is pending and its node the heir, and each chunk that it has read is in its node's set
+-- and to be copied, or each sector of the chunk was settled since the recovery began
+pub record RecoveryHolds (past : List Entry) (state : State) : Type 0 where
+  pub slot : (n : ℕ) (r : Recovering) → state.core.recovery n ≡ Some r
+      → state.core.members.pending r.slot ≡ true
+  pub heir : (n : ℕ) (r : Recovering) → state.core.recovery n ≡ Some r
+      → state.core.members.heir r.slot ≡ Some n
+  pub found : (n c : ℕ) (r : Recovering) → state.core.recovery n ≡ Some r → r.found c ≡ true
+      → (((state.core.bitmap n).set c ≡ true) × ((state.core.bitmap n).need c ≡ true))
+      ⊎ ((s : ℕ) → s < (sizes state.core).room → chunk_of (sizes state.core) s ≡ c
+      → since_in past n s ≡ true)
+
+abbrev pub RunsRecover : Type 0
+RunsRecover = Always (λ o start past end. RecoveryHolds past end)
