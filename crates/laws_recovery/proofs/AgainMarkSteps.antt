@@ -22,7 +22,7 @@ use Rattle.laws_recovery.proofs.HolderSteps.{bit_marked, bit_cleared}
 use Rattle.laws_recovery.proofs.Known.{Known}
 use Rattle.laws_recovery.proofs.Lacks.{lacks_tried, lacks_copied, decides_end, decides_settle, buffer_is, not_there, lacked_written}
 use Rattle.laws_recovery.proofs.Marked.{wish_agreed}
-use Rattle.laws_recovery.proofs.Points.{at_point, clash, else_is}
+use Rattle.laws_writes.proofs.Points.{at_point, clash, else_is}
 use Rattle.laws_recovery.proofs.Stale.{AgainTargets, AgainFresh, lacks}
 
 pub else_false : (b c : Bool) → b ≡ false → c ≡ false → (if b then true else c) ≡ false

@@ -32,7 +32,7 @@ use Rattle.laws_recovery.proofs.Ghosts.{Hold, hold_after}
 use Rattle.laws_recovery.proofs.HolderSteps.{goes_clean, cleared_kept}
 use Rattle.laws_recovery.proofs.Known.{Known}
 use Rattle.laws_recovery.proofs.Lacks.{lacks_tried, lacks_copied, decides_end, decides_settle, buffer_is, lacks_below}
-use Rattle.laws_recovery.proofs.Points.{at_point, either_if, same_point, clash}
+use Rattle.laws_writes.proofs.Points.{at_point, either_if, same_point, clash}
 use Rattle.laws_recovery.proofs.Stale.{AgainArm, lacks, arm}
 
 -- another addition is no leg that is added again

@@ -3,7 +3,7 @@ use Rattle.std.proofs.Common.{◌≡◌, ℕ, ◌==◌, ◌||◌, Bool, true, fa
 use Rattle.dlm_modes.specs.Points.{with_at}
 use Rattle.node_recovery.specs.Progress.{Recovering, begun, with_cleared, with_found, with_read}
 use Rattle.storage_ways.proofs.Parts.{found_in}
-use Rattle.laws_recovery.proofs.Points.{at_point, same_point, clash}
+use Rattle.laws_writes.proofs.Points.{at_point, same_point, clash}
 
 abbrev pub armed : (ℕ → Bool) → (ℕ → Option Recovering) → ℕ → ℕ → Bool
 armed pending recovery k c = pending k || found_in (recovery k) c

@@ -18,7 +18,7 @@ use Rattle.laws_recovery.proofs.Covering.{no_since}
 use Rattle.laws_recovery.proofs.Ghosts.{Hold}
 use Rattle.laws_recovery.proofs.Known.{Known}
 use Rattle.laws_recovery.proofs.Lacks.{lacks_tried, lacks_copied, decides_end, decides_settle, buffer_is, not_there, lacked_written}
-use Rattle.laws_recovery.proofs.Points.{at_point, and_left}
+use Rattle.laws_writes.proofs.Points.{at_point, and_left}
 use Rattle.laws_recovery.proofs.Stale.{CoveredFresh, lacks}
 
 covered_mapped : (l : ℕ) (f : Passing → Passing) (x : Option Passing) → ((p : Passing) → (f p).covered l ≡ true → p.covered l ≡ true) → covered_by (option_map f x) l ≡ true → covered_by x l ≡ true

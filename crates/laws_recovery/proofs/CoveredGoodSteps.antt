@@ -20,7 +20,7 @@ use Rattle.laws_recovery.proofs.HolderSteps.{offered_good}
 use Rattle.laws_recovery.proofs.Known.{Known}
 use Rattle.laws_recovery.proofs.Lacks.{lacks_tried, lacks_copied, decides_end, decides_settle, buffer_is, not_there}
 use Rattle.laws_recovery.proofs.Marked.{wish_good, bit_kept, bit_else, apart_sym}
-use Rattle.laws_recovery.proofs.Points.{at_point, either_if, same_point, clash, and_left, or_right}
+use Rattle.laws_writes.proofs.Points.{at_point, either_if, same_point, clash, and_left, or_right}
 use Rattle.laws_recovery.proofs.Stale.{CoveredGood, lacks, arm}
 use Rattle.laws_recovery.proofs.StaleSteps.{no_arm}
 

@@ -21,7 +21,7 @@ use Rattle.laws_recovery.proofs.Found.{covered_found, covered_kept}
 use Rattle.laws_recovery.proofs.Ghosts.{Hold, hold_after}
 use Rattle.laws_recovery.proofs.Known.{Known}
 use Rattle.laws_recovery.proofs.Lacks.{lacks_tried, lacks_copied, decides_end, decides_settle, buffer_is, not_there}
-use Rattle.laws_recovery.proofs.Points.{at_point, either_if, same_point, and_left}
+use Rattle.laws_writes.proofs.Points.{at_point, either_if, same_point, and_left}
 use Rattle.laws_recovery.proofs.Stale.{CoveredArm, lacks, arm}
 
 -- what a node's copying tells of a covered leg

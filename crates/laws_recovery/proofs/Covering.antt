@@ -27,7 +27,7 @@ use Rattle.laws_recovery.proofs.Found.{reads_working, covered_found}
 use Rattle.laws_recovery.proofs.Ghosts.{Hold}
 use Rattle.laws_recovery.proofs.Known.{Known}
 use Rattle.laws_recovery.proofs.Lacks.{lacks_below}
-use Rattle.laws_recovery.proofs.Points.{clash, same_point}
+use Rattle.laws_writes.proofs.Points.{clash, same_point}
 use Rattle.laws_recovery.proofs.Stale.{lacks, arm}
 
 -- what a pass tells of a covered leg and a chunk that isn't to be copied

@@ -9,7 +9,7 @@ use Rattle.laws_writes.proofs.Settled.{Since}
 use Rattle.laws_recovery.proofs.Ghosts.{Hold, with_keeper}
 use Rattle.laws_recovery.proofs.Known.{Known}
 use Rattle.laws_recovery.proofs.Lacks.{Decides, lacked, lacked_written, not_there}
-use Rattle.laws_recovery.proofs.Points.{clash, either_if, and_left, and_right, same_point}
+use Rattle.laws_writes.proofs.Points.{clash, either_if, and_left, and_right, same_point}
 use Rattle.laws_recovery.proofs.Stale.{lacks}
 
 module _ (w : Part) (g : Ghost) (h : Hold) (z : Since) (a : Known w g h z) (n t : ℕ) (v : Sector) (d : Decides w g n t v) where

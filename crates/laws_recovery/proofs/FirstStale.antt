@@ -27,7 +27,7 @@ use Rattle.laws_writes.proofs.Places.{chunk_lt}
 use Rattle.laws_writes.proofs.Settled.{Since, Settled}
 use Rattle.laws_writes.proofs.Values.{in_among}
 use Rattle.laws_recovery.proofs.Ghosts.{Hold}
-use Rattle.laws_recovery.proofs.Points.{clash}
+use Rattle.laws_writes.proofs.Points.{clash}
 use Rattle.laws_recovery.proofs.Stale.{Stale}
 use Rattle.laws_recovery.proofs.Values.{same_self}
 

@@ -23,7 +23,7 @@ use Rattle.laws_writes.proofs.Places.{page_lt}
 use Rattle.laws_writes.proofs.Settled.{Since}
 use Rattle.laws_recovery.proofs.Ghosts.{Hold}
 use Rattle.laws_recovery.proofs.Known.{Known}
-use Rattle.laws_recovery.proofs.Points.{clash}
+use Rattle.laws_writes.proofs.Points.{clash}
 use Rattle.laws_recovery.proofs.Stale.{lacks}
 
 pub up_inside : (x : NodeState) → is_up x ≡ true → is_in x ≡ true

@@ -27,7 +27,7 @@ use Rattle.laws_recovery.proofs.Ghosts.{Hold, hold_after}
 use Rattle.laws_recovery.proofs.Known.{Known}
 use Rattle.laws_recovery.proofs.Lacks.{lacks_tried, lacks_copied, decides_end, decides_settle, buffer_is}
 use Rattle.laws_recovery.proofs.Marked.{wish_missed}
-use Rattle.laws_recovery.proofs.Points.{at_point, either_if, same_point, clash}
+use Rattle.laws_writes.proofs.Points.{at_point, either_if, same_point, clash}
 use Rattle.laws_recovery.proofs.Stale.{HolderSet, HolderRead, lacks}
 
 -- a chunk stays in the sets

@@ -24,7 +24,7 @@ use Rattle.laws_recovery.proofs.Ghosts.{Hold, hold_after}
 use Rattle.laws_recovery.proofs.Known.{Known}
 use Rattle.laws_recovery.proofs.Lacks.{lacks_tried, lacks_copied, decides_end, decides_settle, working_good, buffer_is}
 use Rattle.laws_recovery.proofs.Marked.{wish_missed, wish_agreed, wish_good, bit_kept, bit_else, apart_sym}
-use Rattle.laws_recovery.proofs.Points.{either_if, same_point, clash, or_left_true, or_right}
+use Rattle.laws_writes.proofs.Points.{either_if, same_point, clash, or_left_true, or_right}
 use Rattle.laws_recovery.proofs.Stale.{Holder, HolderWorking, HolderGood, lacks}
 
 module _ (w : Part) (g : Ghost) (h : Hold) (z : Since) (a : Known w g h z) where

@@ -34,7 +34,7 @@ use Rattle.laws_writes.proofs.Values.{ValuesAre, among_in}
 use Rattle.laws_recovery.specs.Laws.{RebuildHolds, IsLeft, slot_left, read_left, Holds, AgainHolds, IsFound, was_gathered, will_be_gathered, slot_found, read_found}
 use Rattle.laws_recovery.proofs.Ghosts.{Hold}
 use Rattle.laws_recovery.proofs.Known.{Known}
-use Rattle.laws_recovery.proofs.Points.{clash}
+use Rattle.laws_writes.proofs.Points.{clash}
 use Rattle.laws_recovery.proofs.Stale.{lacks}
 
 both : (a b : Bool) → (a && b) ≡ true → (a ≡ true) × (b ≡ true)

@@ -16,7 +16,7 @@ use Rattle.storage_ways.proofs.Sound.{Sound}
 use Rattle.storage_ways.proofs.Ways.{Acked, Trying, Finishing, Settles, Buffers}
 use Rattle.laws_writes.proofs.Ghosts.{Ghost, undecided, is_among, with_try, with_value}
 use Rattle.laws_writes.proofs.Contents.{Contents, is_stale}
-use Rattle.laws_recovery.proofs.Points.{and_left}
+use Rattle.laws_writes.proofs.Points.{and_left}
 use Rattle.laws_recovery.proofs.Stale.{lacks, BufferValue}
 use Rattle.laws_recovery.proofs.Values.{same_self, only_value, stale_tried}
 

@@ -1,7 +1,6 @@
 pub mod Ghosts
 pub mod Stale
 pub mod Known
-pub mod Points
 pub mod Marked
 pub mod Arms
 pub mod Values

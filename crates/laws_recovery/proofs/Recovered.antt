@@ -6,7 +6,7 @@ use Rattle.storage_ways.proofs.Ways.{Way, Ways}
 use Rattle.storage_ways.proofs.Ways as ways
 use Rattle.laws_writes.proofs.Ghosts.{Ghost, ghost_after}
 use Rattle.laws_writes.proofs.Settled.{Since, since_after, Settled}
-use Rattle.laws_writes.proofs.SettledSteps.{settled_step}
+use Rattle.laws_writes.proofs.ReadNeedSteps.{settled_step}
 use Rattle.laws_writes.proofs.Written.{Written, ghost_over, written_way}
 use Rattle.laws_recovery.proofs.Ghosts.{Hold, hold_after}
 use Rattle.laws_recovery.proofs.Known.{Known}

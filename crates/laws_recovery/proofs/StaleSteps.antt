@@ -19,14 +19,14 @@ use Rattle.storage_ways.proofs.Ways as ways
 use Rattle.storage_ways.proofs.Ways.{Way, Offering, Fills}
 use Rattle.laws_roles.proofs.Parts.{promotes}
 use Rattle.laws_writes.proofs.Ghosts.{Ghost, ghost_after, is_among}
-use Rattle.laws_writes.proofs.FreeSectors.{next_free}
+use Rattle.laws_writes.proofs.Races.{no_write_buffer}
 use Rattle.laws_writes.proofs.Settled.{Since}
 use Rattle.laws_recovery.proofs.Ghosts.{Hold}
 use Rattle.laws_recovery.proofs.Known.{Known}
 use Rattle.laws_recovery.proofs.Lacks.{lacks_tried, lacks_copied, decides_end, decides_settle, lacked_written, buffer_is}
 use Rattle.laws_recovery.proofs.Stale.{NotStale, BufferValue, lacks, arm}
 use Rattle.laws_recovery.proofs.Marked.{apart_sym}
-use Rattle.laws_recovery.proofs.Points.{at_point, fails, clash}
+use Rattle.laws_writes.proofs.Points.{at_point, fails, clash}
 use Rattle.laws_recovery.proofs.Values.{among_more}
 
 found_some : (x : Option Recovering) (c : ℕ) → found_in x c ≡ true → is_some x ≡ true
@@ -132,6 +132,10 @@ tried_value us false v u e = e
 kept_value : (c : Bool) (us ys : List Sector) (v : Sector) → c ≡ false → is_among v ys ≡ true → is_among v (if c then us else ys) ≡ true
 kept_value c us ys v other e = grind arith
 
+no_true : (b : Bool) → (b ≡ true → ⊥) → b ≡ false
+no_true true f = absurd (f refl)
+no_true false f = refl
+
 -- no live write is of the buffer's sector
 other_sector : (w : Part) (g : Ghost) (h : Hold) (z : Since) → Known w g h z → (m n k : ℕ) (b : Buffer) (x : LiveWrite) → write_in k (w.writes n) ≡ Some x → buffer_in (w.copy m).pass ≡ Some b → (b.sector == x.sector) ≡ false
 other_sector w g h z a m n k b x here is = by (w.copy m).pass refl
@@ -139,9 +143,8 @@ other_sector w g h z a m n k b x here is = by (w.copy m).pass refl
     by : (y : Option Passing) → (w.copy m).pass ≡ y → (b.sector == x.sector) ≡ false
     by None e = let none = sym (ap buffer_in e) ∙ is in cc
     by (Some p) e =
-        let next = a.contents.buffer_place m p b e (sym (ap buffer_in e) ∙ is) in
-        let free = next_free w a.sound a.windows m n k b.sector next in
-        apart_sym x.sector b.sector (sym (ap (λ y. writes_at y b.sector) here) ∙ free)
+        let race = no_write_buffer w g a.sound a.windows a.contents m n k p b e (sym (ap buffer_in e) ∙ is) in
+        apart_sym x.sector b.sector (no_true (x.sector == b.sector) (λ same. race (ap (λ y. writes_at y b.sector) here ∙ same)))
 
 -- the buffer of a pass that goes on, and there are no others
 pub buffer_value : (w v : Part) (x : Way w v) (g : Ghost) (h : Hold) (z : Since) → Known w g h z → BufferValue v (ghost_after x g)

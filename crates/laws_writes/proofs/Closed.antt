@@ -1,9 +1,8 @@
 -- What windows keep out, in one state.
-use Rattle.std.proofs.Common.{◌≡◌, ◌≢◌, inl, inr, ℕ, ◌<◌, ◌==◌, ◌&&◌, not, Bool, true, false, Option, Some, None, refl, sym, ap, subst, ◌∙◌, arith}
+use Rattle.std.proofs.Common.{◌≡◌, ◌≢◌, ℕ, ◌==◌, ◌&&◌, not, Bool, true, false, Some, refl, ap, subst, ◌∙◌, arith}
 use Rattle.std.specs.Prelude.{is_some}
 use Rattle.std.proofs.lemmas.Bool.Decides.{nat_tests}
 use Rattle.mdc_types.specs.Ranges.{holds}
-use Rattle.mdc_types.specs.declared.events.Wish.{Wish}
 use Rattle.mdc_types.specs.declared.events.Wish.TheVariants as wishes
 use Rattle.mdc_types.specs.declared.numbers.Range.{Range}
 use Rattle.mdc_types.specs.declared.roles.NodeState.{NodeState}
@@ -17,7 +16,7 @@ use Rattle.cluster_model.specs.State.{State, Offer, Copy}
 use Rattle.cluster_model.specs.Guards.{is_out}
 use Rattle.cluster_model.specs.Phases.{is_in, is_up, offers}
 use Rattle.laws_roles.proofs.InState.{up_is, up_in, up_role}
-use Rattle.storage_ways.proofs.Parts.{Part, is_range, wish_range, tells_range, waits, own, offered_range}
+use Rattle.storage_ways.proofs.Parts.{Part, is_range, wish_range, tells_range, own, offered_range}
 use Rattle.storage_ways.proofs.Sound.{Sound}
 use Rattle.storage_ways.proofs.Place.{Around, here, Place, sound_of}
 use Rattle.laws_writes.specs.Laws.{WindowsHold}

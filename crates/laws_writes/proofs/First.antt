@@ -1,5 +1,5 @@
 -- What holds of bits, windows, contents, recoveries and intent at an opening.
-use Rattle.std.proofs.Common.{◌≡◌, ℕ, ◌<◌, ◌==◌, ◌&&◌, ◌||◌, if◌then◌else◌, Bool, true, false, [], ◌∷◌, Option, Some, None, refl, sym, ap, subst, ◌∙◌, arith}
+use Rattle.std.proofs.Common.{◌≡◌, ℕ, ◌<◌, ◌||◌, if◌then◌else◌, Bool, true, false, [], ◌∷◌, Option, None, refl, subst, arith}
 use Rattle.std.specs.Prelude.{nat_lt}
 use Rattle.std.proofs.lemmas.Bool.Decides.{nat_tests}
 use Rattle.mdc_types.specs.Bits.{has_bit}
@@ -15,7 +15,7 @@ use Rattle.laws_roles.proofs.Parts.{ghost_at}
 use Rattle.storage_ways.proofs.Opening.{Begins, begins}
 use Rattle.storage_ways.proofs.Runs.{At}
 use Rattle.storage_ways.proofs.Parts.{Part, part_of, bits_on, told_by}
-use Rattle.laws_writes.proofs.Ghosts.{Ghost, undecided, is_open}
+use Rattle.laws_writes.proofs.Ghosts.{Ghost, is_open}
 use Rattle.laws_writes.proofs.Bits.{Bits}
 use Rattle.laws_writes.proofs.Windows.{Windows}
 use Rattle.laws_writes.proofs.Contents.{Contents}

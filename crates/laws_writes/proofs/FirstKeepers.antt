@@ -1,6 +1,6 @@
 -- At a sound opening a slot answers for each sector with two values: it marks the chunk on all legs
 -- that work, and waits for its recovery.
-use Rattle.std.proofs.Common.{◌≡◌, ◌⊎◌, inl, inr, ℕ, zero, suc, ◌<◌, ◌≤◌, ◌+◌, ◌==◌, ◌&&◌, ◌||◌, not, if◌then◌else◌, Bool, true, false, length, List, [], ◌∷◌, Option, Some, None, refl, sym, ap, subst, ◌∙◌, arith}
+use Rattle.std.proofs.Common.{◌≡◌, inl, inr, ℕ, zero, suc, ◌<◌, ◌≤◌, ◌&&◌, ◌||◌, not, if◌then◌else◌, Bool, true, false, length, List, [], ◌∷◌, Option, Some, None, refl, sym, ap, subst, ◌∙◌, arith}
 use Rattle.std.specs.Prelude.{nat_lt, get_or, is_some, is_none as has_none, unwrap_or, replicate}
 use Rattle.std.specs.Str.{bytes_eq}
 use Rattle.std.proofs.lemmas.Bool.{cases_lt}
@@ -10,19 +10,17 @@ use Rattle.slot_pages.proofs.GrammarLaws.{no_bit}
 use Rattle.dlm_modes.specs.First.{first_such, each_such}
 use Rattle.dlm_modes.proofs.FirstLaws.{IsFirst, first_such_some, first_such_none}
 use Rattle.mdc_types.specs.Bits.{has_bit}
-use Rattle.mdc_types.specs.Geometry.{Sizes, nodes_of, chunks_of, chunk_of}
-use Rattle.mdc_types.specs.Roles.{role_of, is_working, some_works}
+use Rattle.mdc_types.specs.Geometry.{nodes_of, chunks_of, chunk_of}
+use Rattle.mdc_types.specs.Roles.{role_of, is_working}
 use Rattle.mdc_types.specs.Sectors.{zero_sector}
 use Rattle.mdc_types.specs.declared.numbers.Sector.{Sector}
-use Rattle.mdc_types.specs.declared.roles.Role.{Role}
-use Rattle.mdc_types.specs.declared.roles.Role.TheVariants.{Working, Spare}
 use Rattle.plain_history.specs.History.{values_at}
 use Rattle.cluster_model.specs.State.{State, Legs}
 use Rattle.cluster_model.specs.Stored.{bit_on, data_on}
 use Rattle.cluster_model.specs.Opening.{Origin, IsOrigin}
-use Rattle.cluster_model.specs.Contents.{Opens, IsHeader, IsImages, AllTell, SoundOpening, MarksOnAll, works_at, some_mark, is_marked_slot, with_new, values_on}
-use Rattle.laws_roles.proofs.InState.{working_role, working_is}
-use Rattle.laws_writes.proofs.Ghosts.{Ghost, undecided, is_open, has_value}
+use Rattle.cluster_model.specs.Contents.{IsHeader, SoundOpening, MarksOnAll, works_at, some_mark, is_marked_slot, with_new, values_on}
+use Rattle.laws_roles.proofs.InState.{working_role}
+use Rattle.laws_writes.proofs.Ghosts.{Ghost, is_open, has_value}
 use Rattle.laws_writes.proofs.Places.{chunk_lt}
 
 -- the slot marks the chunk on each leg that works

@@ -1,14 +1,11 @@
 -- An opening of a header has one value at each sector, and no faulty leg.
-use Rattle.std.proofs.Common.{◌≡◌, inl, inr, ℕ, ◌<◌, ◌&&◌, if◌then◌else◌, Bool, true, false, length, refl, sym, ap, subst, ◌∙◌, arith}
+use Rattle.std.proofs.Common.{◌≡◌, inl, inr, ℕ, ◌&&◌, if◌then◌else◌, Bool, true, false, sym, ap, ◌∙◌}
 use Rattle.std.specs.Prelude.{nat_lt, not}
 use Rattle.std.proofs.lemmas.Bool.{cases_lt}
 use Rattle.mdc_types.specs.Bits.{has_bit}
 use Rattle.mdc_types.specs.Roles.{role_of, eight}
-use Rattle.mdc_types.specs.declared.roles.Role.{Role}
 use Rattle.mdc_types.specs.declared.roles.Role.TheVariants.{Working, Spare, Faulty}
 use Rattle.mdc_types.proofs.RolesLaws.{role_of-eight, role_of-eight_past}
-use Rattle.cluster_model.specs.State.{State}
-use Rattle.cluster_model.specs.Contents.{Opens, IsHeader, AllTell, SoundOpening}
 use Rattle.cluster_model.specs.Opening.{Origin, header_role}
 use Rattle.laws_writes.specs.Laws.{HeadersAreSound}
 use Rattle.laws_writes.proofs.FirstKeepers.{header_one}

@@ -1,43 +1,28 @@
 -- What follows in one state.
-use Rattle.std.proofs.Common.{◌≡◌, ◌≢◌, inl, inr, ℕ, ◌<◌, ◌==◌, ◌&&◌, ◌||◌, not, if◌then◌else◌, Bool, true, false, List, length, ◌≤◌, Option, Some, None, refl, sym, ap, subst, ◌∙◌, arith}
+use Rattle.std.proofs.Common.{◌≡◌, ℕ, ◌==◌, ◌&&◌, if◌then◌else◌, Bool, true, false, List, Option, Some, None, refl, sym, ap, subst, ◌∙◌, arith}
 use Rattle.std.specs.Prelude.{is_some, nat_lt}
 use Rattle.std.proofs.lemmas.Bool.Decides.{nat_tests}
 use Rattle.dlm_modes.specs.declared.mode.Mode.{Mode}
 use Rattle.dlm_modes.specs.declared.mode.Mode.TheVariants.{EX}
-use Rattle.mdc_types.specs.Geometry.{chunk_of, nodes_of}
+use Rattle.mdc_types.specs.Geometry.{nodes_of}
 use Rattle.mdc_types.specs.Ranges.{holds}
-use Rattle.mdc_types.specs.Roles.{role_of, is_working}
-use Rattle.mdc_types.specs.declared.events.Wish.{Wish}
-use Rattle.mdc_types.specs.declared.events.Wish.TheVariants as wishes
 use Rattle.mdc_types.specs.declared.numbers.Range.{Range}
-use Rattle.mdc_types.specs.declared.numbers.Sector.{Sector}
-use Rattle.mdc_types.specs.declared.roles.NodeState.TheVariants as states
-use Rattle.msg_rounds.specs.Phases.{has_processed, has_published}
-use Rattle.msg_rounds.specs.declared.phases.SenderPhase.TheVariants as senders
-use Rattle.leg_failure.specs.Views.{works}
-use Rattle.mirror_io.specs.Flight.{write_in, is_done}
+use Rattle.mirror_io.specs.Flight.{write_in}
 use Rattle.mirror_io.specs.declared.live.LiveWrite.{LiveWrite}
 use Rattle.suspend_ranges.specs.Suspended.{entry_of, suspends}
-use Rattle.cluster_model.specs.State.{State, Core, Offer, Turn, Held, sizes}
-use Rattle.cluster_model.specs.Changes.{resync_res}
+use Rattle.cluster_model.specs.State.{State, Core, Turn, Held, sizes}
 use Rattle.cluster_model.specs.Copying.{buffer_of, buffer_in}
 use Rattle.cluster_model.specs.Stored.{data_on}
-use Rattle.cluster_model.specs.Phases.{is_in, is_up, offers}
-use Rattle.cluster_model.specs.Served.{Intent, Kept, MarkedOnTrusted, Trusted, IsKept}
 use Rattle.laws_locks.specs.Others.{turn_held}
-use Rattle.laws_roles.proofs.InState.{up_is, up_in, works_role, working_is}
-use Rattle.laws_roles.proofs.Parts.{supers}
-use Rattle.laws_roles.proofs.Parts as roles
-use Rattle.storage_ways.proofs.Parts.{Part, bits_on, write_of, writes_at, is_range, offered_range, tells_range, waits, own, has_pass}
+use Rattle.storage_ways.proofs.Parts.{Part, bits_on, writes_at}
 use Rattle.storage_ways.proofs.Place.{Around, here, Place, sound_of}
 use Rattle.storage_ways.specs.Broken.{broken_in}
 use Rattle.mdc_types.specs.declared.outcomes.Entry.{Entry}
-use Rattle.laws_writes.specs.Laws.{WritesHold, BitsHold, WindowsHold, CopiesHold}
-use Rattle.laws_writes.proofs.Ghosts.{Ghost, undecided, is_open}
+use Rattle.laws_writes.specs.Laws.{WritesHold, BitsHold, CopiesHold}
+use Rattle.laws_writes.proofs.Ghosts.{Ghost}
 use Rattle.laws_writes.proofs.Bits.{Bits}
 use Rattle.laws_writes.proofs.Windows.{Windows}
 use Rattle.laws_writes.proofs.Contents.{Contents}
-use Rattle.laws_writes.proofs.Intent.{Intents}
 use Rattle.laws_writes.proofs.Values.{BrokenAre}
 
 pub found_there : (x : Option LiveWrite) (w : LiveWrite) → x ≡ Some w → writes_at x w.sector ≡ true

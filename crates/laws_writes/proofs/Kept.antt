@@ -1,22 +1,19 @@
 -- The intent of each open write, in one state.
-use Rattle.std.proofs.Common.{◌≡◌, ◌⊎◌, inl, inr, ℕ, ◌<◌, ◌≤◌, ◌&&◌, ◌||◌, Bool, true, false, List, length, Option, Some, None, refl, sym, ap, subst, ◌∙◌, arith}
+use Rattle.std.proofs.Common.{◌≡◌, ◌⊎◌, inl, inr, ℕ, ◌≤◌, ◌&&◌, ◌||◌, Bool, true, false, Option, Some, None, refl, sym, ap, subst, ◌∙◌, arith}
 use Rattle.std.specs.Prelude.{nat_lt, unwrap_or}
 use Rattle.dlm_modes.specs.First.{first_such}
 use Rattle.mdc_types.specs.Geometry.{chunk_of, nodes_of}
-use Rattle.mdc_types.specs.Roles.{role_of, is_working, some_works}
-use Rattle.mdc_types.specs.declared.numbers.Sector.{Sector}
-use Rattle.mdc_types.specs.declared.roles.Role.TheVariants.{Working}
-use Rattle.md_superblock.specs.Arrays.{Array, Says}
-use Rattle.leg_failure.specs.Views.{works}
-use Rattle.cluster_model.specs.State.{State, Core, Legs, sizes}
-use Rattle.cluster_model.specs.Served.{Intent, Kept, MarkedOnTrusted, Trusted, Served, CalledIn, IsKept}
-use Rattle.cluster_model.specs.Stored.{super_on, bit_on}
+use Rattle.mdc_types.specs.Roles.{role_of, is_working}
+use Rattle.md_superblock.specs.Arrays.{Says}
+use Rattle.cluster_model.specs.State.{State, sizes}
+use Rattle.cluster_model.specs.Served.{Intent, Trusted}
+use Rattle.cluster_model.specs.Stored.{super_on}
 use Rattle.laws_sound.proofs.Supers.{says_fit}
 use Rattle.laws_roles.proofs.InState.{up_in, working_is}
 use Rattle.laws_roles.proofs.Parts as roles
 use Rattle.laws_roles.proofs.Parts.{number, said_role, supers}
 use Rattle.storage_ways.proofs.Parts.{Part}
-use Rattle.storage_ways.proofs.Place.{Around, here, Place, sound_of}
+use Rattle.storage_ways.proofs.Place.{here, Place, sound_of}
 use Rattle.storage_ways.proofs.Moving.{Traced, around}
 use Rattle.storage_ways.proofs.Roled.{served_good}
 use Rattle.storage_ways.proofs.Sound.{Sound}

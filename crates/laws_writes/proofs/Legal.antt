@@ -1,26 +1,22 @@
 -- Writes are asked where no other is live, and end after their start while they are live.
-use Rattle.std.proofs.Common.{◌≡◌, ◌≢◌, ℕ, ◌==◌, ◌&&◌, not, Bool, true, false, List, Option, Some, None, refl, sym, ap, subst, ◌∙◌, arith}
+use Rattle.std.proofs.Common.{◌≡◌, ◌≢◌, ℕ, ◌==◌, ◌&&◌, not, Bool, true, false, List, Option, Some, None, refl, ap, ◌∙◌, arith}
 use Rattle.std.proofs.lemmas.Bool.Decides.{nat_tests}
 use Rattle.mdc_types.specs.Roles.{is_working, is_written}
 use Rattle.mdc_types.specs.declared.events.Event.{Event}
 use Rattle.mdc_types.specs.declared.events.Event.TheVariants as events
 use Rattle.mdc_types.specs.declared.numbers.Sector.{Sector}
 use Rattle.mdc_types.specs.declared.outcomes.Outcome.{Outcome}
-use Rattle.mdc_types.specs.declared.roles.NodeState.{NodeState}
-use Rattle.mdc_types.specs.declared.roles.NodeState.TheVariants as states
 use Rattle.mdc_types.specs.declared.roles.Role.{Role}
-use Rattle.leg_failure.specs.Views.{works, is_target}
-use Rattle.mirror_io.specs.Flight.{write_in, is_done}
+use Rattle.mirror_io.specs.Flight.{write_in}
 use Rattle.mirror_io.specs.declared.live.LiveWrite.{LiveWrite}
 use Rattle.plain_history.specs.History.{PlainWrite, HasBegun, IsFree, LegalEntry}
 use Rattle.cluster_model.specs.State.{Core}
-use Rattle.cluster_model.specs.Phases.{is_in, is_up}
 use Rattle.cluster_model.specs.Table.{refusal}
-use Rattle.storage_ways.proofs.Parts.{Part, write_of, read_leg, done_there, has_started}
+use Rattle.storage_ways.proofs.Parts.{read_leg, done_there, has_started}
 use Rattle.storage_ways.proofs.Place.{Around, here, Place, sound_of}
 use Rattle.storage_ways.proofs.Flying.{plain_of, flying}
 use Rattle.storage_ways.proofs.RequestRows.{asking, ended}
-use Rattle.laws_writes.specs.Laws.{of_writes}
+use Rattle.laws_writes.specs.Laws.{IsOfWrites}
 use Rattle.laws_writes.proofs.Ghosts.{Ghost}
 use Rattle.laws_writes.proofs.Contents.{Contents}
 use Rattle.laws_writes.proofs.Heirs.{up_inside}
@@ -61,7 +57,7 @@ module _ (core : Core) (a : Around) (p : Place core a) (g : Ghost) (c : Contents
       let found = e.finishing.ending.write in
       begun_so (write_in k (core.writes n)) e.write found (c.done_started n k l (ap (λ x. done_there x l) found ∙ done))
 
-  pub write_legal : (e : Event) (o : Outcome) (reads : ℕ → ℕ → Option ℕ) (values : ℕ → List Sector) → of_writes e → refusal core e ≡ None → LegalEntry (flying core.writes) reads values e o
+  pub write_legal : (e : Event) (o : Outcome) (reads : ℕ → ℕ → Option ℕ) (values : ℕ → List Sector) → IsOfWrites e → refusal core e ≡ None → LegalEntry (flying core.writes) reads values e o
   write_legal (events.AskWrite n s v) o reads values of ok = ask_free n s v ok
   write_legal (events.EndWrite n k) o reads values of ok = end_begun n k ok
   write_legal e o reads values of ok = elim of [ ]

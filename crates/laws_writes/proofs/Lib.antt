@@ -13,12 +13,13 @@ pub mod WindowSteps
 pub mod Recoverers
 pub mod PageSteps
 pub mod Places
-pub mod FreeSectors
+pub mod Points
 pub mod UndecidedSteps
 pub mod Heirs
 pub mod KeeperSteps
 pub mod Settling
 pub mod SettledSteps
+pub mod ReadNeedSteps
 pub mod NeedSteps
 pub mod MarkSteps
 pub mod CoverSteps

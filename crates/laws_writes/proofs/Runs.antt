@@ -1,35 +1,22 @@
 -- What is known of writes, along each run.
-use Rattle.std.proofs.Common.{◌≡◌, ℕ, ◌<◌, ◌==◌, ◌&&◌, if◌then◌else◌, Bool, true, false, List, [], ◌∷◌, refl, sym, ap, subst, ◌∙◌, arith}
+use Rattle.std.proofs.Common.{◌≡◌, ℕ, ◌<◌, if◌then◌else◌, Bool, true, false, List, [], ◌∷◌, refl, sym, subst, arith}
 use Rattle.std.specs.Prelude.{nat_lt}
 use Rattle.std.proofs.lemmas.Bool.Decides.{nat_tests}
 use Rattle.mdc_types.specs.Sectors.{zero_sector}
-use Rattle.mdc_types.specs.declared.numbers.Sector.{Sector}
 use Rattle.mdc_types.specs.declared.outcomes.Entry.{Entry}
-use Rattle.md_superblock.specs.Arrays.{Array}
-use Rattle.plain_history.specs.History.{candidates, values_at, live_writes, asked_reads, LegalEntry}
-use Rattle.cluster_model.specs.State.{State, Core, Legs, sizes}
-use Rattle.cluster_model.specs.Contents.{Opens, SoundOpening}
-use Rattle.cluster_model.specs.Opening.{Origin, array_of, core_at}
-use Rattle.cluster_model.specs.Run.{Run, Step}
-use Rattle.cluster_model.specs.Served.{Intent}
+use Rattle.plain_history.specs.History.{values_at}
+use Rattle.cluster_model.specs.State.{State}
+use Rattle.cluster_model.specs.Contents.{SoundOpening}
+use Rattle.cluster_model.specs.Opening.{Origin, array_of}
+use Rattle.cluster_model.specs.Run.{Run}
 use Rattle.laws_roles.specs.Laws.{Tells}
-use Rattle.laws_roles.proofs.Parts.{supers, ghost_in, ghost_at}
-use Rattle.laws_roles.proofs.Runs.{array_is}
-use Rattle.storage_ways.proofs.Flying.{flying, live_are}
-use Rattle.storage_ways.proofs.Moving.{around}
-use Rattle.storage_ways.proofs.Parts.{Part, bits_on}
-use Rattle.storage_ways.proofs.Place.{Around, here, Place}
+use Rattle.laws_roles.proofs.Parts.{supers}
+use Rattle.storage_ways.proofs.Place.{here}
 use Rattle.storage_ways.proofs.Runs as ways_runs
 use Rattle.storage_ways.proofs.Runs.{around_on, around_at, At, place, run_ways}
-use Rattle.laws_writes.specs.Laws.{WritesHold, BitsHold, WindowsHold, CopiesHold, WritesAreLegal}
 use Rattle.laws_writes.proofs.Ghosts.{Ghost}
-use Rattle.laws_writes.proofs.Closed.{windows_hold}
 use Rattle.laws_writes.proofs.First.{first_bits, first_windows, first_contents, first_pages, first_intents}
 use Rattle.laws_writes.proofs.FirstKeepers.{first_ghost, first_values}
-use Rattle.laws_writes.proofs.InState.{writes_hold, bits_hold, copies_hold}
-use Rattle.laws_writes.proofs.Kept.{intent_holds}
-use Rattle.laws_writes.proofs.Legal.{write_legal}
-use Rattle.laws_writes.proofs.Values.{ValuesAre}
 use Rattle.laws_writes.proofs.Written.{Written, ghost_over, written_ways}
 
 module _ (o : Origin) (start : State) (sound : SoundOpening o start) (tells : Tells o start) where

@@ -106,15 +106,15 @@ RunsCopyAlone = Always (λ o start past end. CopiesHold end)
 
 -- Of a legal history: each write is asked where no other is live, and ends after its start while
 -- it is live.
-abbrev pub of_writes : Event → Type 0
-of_writes (AskWrite n s v) = Unit {0}
-of_writes (EndWrite n k) = Unit {0}
-of_writes e = ⊥
+abbrev pub IsOfWrites : Event → Type 0
+IsOfWrites (AskWrite n s v) = Unit {0}
+IsOfWrites (EndWrite n k) = Unit {0}
+IsOfWrites e = ⊥
 
 abbrev pub WritesAreLegal : (ℕ → List Sector) → List Entry → Type 0
 WritesAreLegal base [] = Unit {0}
 WritesAreLegal base (x ∷ past) =
-    (of_writes x.event → LegalAfter base past x) × WritesAreLegal base past
+    (IsOfWrites x.event → LegalAfter base past x) × WritesAreLegal base past
 
 abbrev pub RunsWriteLegally : Type 0
 RunsWriteLegally = Always (λ o start past end. WritesAreLegal (values_at o.base) past)
