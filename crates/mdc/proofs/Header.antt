@@ -83,6 +83,7 @@ module _ (o : Origin) (faults : List FaultLine) (legs : List Memory)
               core = core;
               contents = rw are_legs (inl new_header);
             });
+            header = subst (λ o. IsHeader o (state_at (stand w)).legs) is_origin (rw are_legs new_header);
             none = none;
             told = rw are_legs (λ l lt. new_told l (omega (arith, lt, legs_is)));
             plans = rw (are_legs, ← is_faults) (λ l lt. new_plans l (omega (arith, lt, legs_is)));

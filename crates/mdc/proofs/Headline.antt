@@ -1,32 +1,17 @@
 -- The headline, of each run from a sound opening, by the laws of all runs.
-use Rattle.std.proofs.Common.{◌≡◌, ℕ, List, None}
-use Rattle.mdc_types.specs.declared.events.Event.TheVariants.{Recovered}
+use Rattle.std.proofs.Common.{List}
 use Rattle.mdc_types.specs.declared.outcomes.Entry.{Entry}
 use Rattle.plain_history.specs.History.{Legal, candidates, values_at}
 use Rattle.cluster_model.specs.State.{State}
 use Rattle.cluster_model.specs.Contents.{SoundOpening}
 use Rattle.cluster_model.specs.Opening.{Origin}
-use Rattle.cluster_model.specs.Recovered.{RecoveredEqual}
 use Rattle.cluster_model.specs.Run.{Run}
-use Rattle.cluster_model.specs.Table.{refusal}
-use Rattle.cluster_model.specs.Served.{NoTrustedLegIsStale, Missed}
+use Rattle.laws_recovery.proofs.Promises.{runs_are_legal, runs_serve_no_stale_leg}
+use Rattle.laws_recovery.proofs.Promises.{runs_mark_what_is_missed}
 use Rattle.laws_roles.specs.Laws.{Tells}
 use Rattle.laws_roles.proofs.Promises.{runs_are_shut, runs_keep_the_size}
-use Rattle.laws_writes.specs.Laws.{Always}
 use Rattle.laws_writes.proofs.Promises.{runs_keep_the_intent}
 use Rattle.mdc.specs.Promises.{Promises}
-
-runs_are_legal : Always (λ o start past end. Legal (values_at o.base) past)
-runs_are_legal = ?
-
-runs_serve_no_stale_leg : Always (λ o start past end. NoTrustedLegIsStale end (candidates (values_at o.base) past))
-runs_serve_no_stale_leg = ?
-
-runs_mark_what_is_missed : Always (λ o start past end. Missed end (candidates (values_at o.base) past))
-runs_mark_what_is_missed = ?
-
-runs_recover_equal : Always (λ o start past end. (n : ℕ) → refusal end.core (Recovered n) ≡ None → RecoveredEqual start past end n)
-runs_recover_equal = ?
 
 module _ (o : Origin) (start end : State) (past : List Entry) (sound : SoundOpening o start)
     (tells : Tells o start) (run : Run start past end) where
@@ -40,5 +25,4 @@ module _ (o : Origin) (start end : State) (past : List Entry) (sound : SoundOpen
     intent = runs_keep_the_intent o start end past sound tells run;
     missed = runs_mark_what_is_missed o start end past sound tells run;
     size = (runs_keep_the_size o start end past sound.opens tells run).size;
-    recovered = runs_recover_equal o start end past sound tells run;
   }

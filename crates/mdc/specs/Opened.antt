@@ -11,7 +11,7 @@ use Rattle.leg_store.specs.declared.memory.Left.TheVariants.{Old, New}
 use Rattle.plain_history.specs.History.{values_at}
 use Rattle.cluster_model.specs.State.{State, Legs}
 use Rattle.cluster_model.specs.Opening.{Origin, header_at}
-use Rattle.cluster_model.specs.Contents.{Opens, SoundOpening, header_sector}
+use Rattle.cluster_model.specs.Contents.{Opens, IsHeader, SoundOpening, header_sector}
 use Rattle.cluster_model.specs.Run.{Run}
 use Rattle.laws_roles.specs.Laws.{Tells}
 use Rattle.world_state.specs.Kept.{Kept}
@@ -87,6 +87,7 @@ FailAsAsked script legs =
 -- before the first line: the opening of the header, over legs that fail as the script says
 pub record Starts (script : ScriptValue) (start : Stand) : Type 0 where
   pub opens : Opens (origin_of script.start) (state_at start)
+  pub header : IsHeader (origin_of script.start) (state_at start).legs
   pub none : start.past ≡ []
   pub told : AllTold script.start (state_at start)
   pub plans : FailAsAsked script start.legs

@@ -1,13 +1,10 @@
 -- What is promised at each place of a run, whichever legs failed and whoever died before.
-use Rattle.std.specs.Prelude.{◌≡◌, ℕ, List, None}
+use Rattle.std.specs.Prelude.{ℕ, List}
 use Rattle.mdc_types.specs.declared.numbers.Sector.{Sector}
-use Rattle.mdc_types.specs.declared.events.Event.TheVariants.{Recovered}
 use Rattle.mdc_types.specs.declared.outcomes.Entry.{Entry}
 use Rattle.cluster_model.specs.State.{State}
 use Rattle.cluster_model.specs.Served.{NoTrustedLegIsStale, Shut, Intent, Missed}
 use Rattle.cluster_model.specs.Size.{Size}
-use Rattle.cluster_model.specs.Recovered.{RecoveredEqual}
-use Rattle.cluster_model.specs.Table.{refusal}
 
 -- At the place `here`, after these entries: `values` has for each sector what a read of it may give.
 pub record Promises (values : ℕ → List Sector) (start : State) (past : List Entry) (here : State)
@@ -22,6 +19,3 @@ pub record Promises (values : ℕ → List Sector) (start : State) (past : List 
   pub missed : Missed here values
   -- no node that is in falls behind a size that an up node was sure of
   pub size : Size start past here
-  -- where a recovery may end, all that its slot had marked is equal, save under later open writes
-  pub recovered : (n : ℕ) → refusal here.core (Recovered n) ≡ None
-      → RecoveredEqual start past here n

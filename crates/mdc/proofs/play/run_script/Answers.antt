@@ -1,6 +1,10 @@
 use Rattle.std.proofs.Common.{arith, Err, ap, refl}
 use Rattle.mdc.proofs.Answering.{ran_all, ran_all_cut, ran_cut, ran_some, ran_some_cut, ran_full, ran_full_cut}
+use Rattle.mdc.proofs.SoundStart.{comes_sound}
 use Rattle.mdc.proofs.play.run_script.Goals as goal
+
+pub play_lines-requires-clause-sound : goal.play_lines-requires-clause-sound
+play_lines-requires-clause-sound g c = comes_sound c.args.script.now c.in-Ok.world c.in-Ok.ensures.origin c.in-Ok.ensures.starts
 
 pub returns-in-Ok-flush-clause-ran : goal.returns-in-Ok-flush-clause-ran
 returns-in-Ok-flush-clause-ran g c =

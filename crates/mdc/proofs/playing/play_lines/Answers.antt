@@ -1,13 +1,21 @@
-use Rattle.std.proofs.Common.{arith, ◌≡◌, ◌∙◌, sym, subst, length}
+use Rattle.std.proofs.Common.{arith, ◌≡◌, ◌∙◌, refl, sym, subst, length}
 use Rattle.cluster_model.specs.Opening.{Origin}
 use Rattle.mdc.specs.Opened.{stand}
-use Rattle.mdc.proofs.Played.{next_line, cut_at, halt_at, full_at}
+use Rattle.mdc.proofs.Played.{begins, next_line, cut_at, halt_at, full_at}
 use Rattle.mdc.proofs.SoundStart.{sound_on}
 use Rattle.mdc.proofs.playing.play_lines.Goals as goal
 
 pub play_line-played-requires-clause-base : goal.play_line-played-requires-clause-base
 play_line-played-requires-clause-base g c =
     subst (λ (o : Origin). length o.base ≡ o.sizes.room) (sym c.loop-i.invariant.origin) c.requires.base
+
+pub loop-i-init : goal.loop-i-init
+loop-i-init g c = record {
+  sofar = rw c.requires.empty (begins (stand c.args.world.now) (g.K.Sink.written c.args.sink.now));
+  origin = refl;
+  sound = c.requires.sound;
+  later = omega arith;
+}
 
 pub loop-i-preserved : goal.loop-i-preserved
 loop-i-preserved g c =
