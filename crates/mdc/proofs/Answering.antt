@@ -1,6 +1,6 @@
 -- From the lines that were played to what the program answers.
-use Rattle.std.proofs.Common.{◌≡◌, inl, inr, ℕ, ◌<◌, ◌≤◌, Option, Some, None, Ok, Err, Bool, true, false, cond, List, [], ◌∷◌, ◌++◌, length, take, refl, sym, ◌∙◌, ap, subst}
-use Rattle.std.specs.Prelude.{reverse, slice_get, codes, IfSome}
+use Rattle.std.proofs.Common.{◌≡◌, inl, inr, ℕ, ◌≤◌, Option, Some, None, Ok, Err, Bool, true, false, cond, List, [], ◌∷◌, ◌++◌, length, take, refl, sym, ◌∙◌, ap, subst}
+use Rattle.std.specs.Prelude.{reverse, codes, IfSome}
 use Rattle.std.proofs.lemmas.List.{append_assoc}
 use Rattle.std.proofs.Math.Seq.{take-length}
 use Rattle.mdc_types.specs.Faults.{Rose}
@@ -28,7 +28,7 @@ use Rattle.std.specs.Str.{bytes_eq}
 use Rattle.mdc.specs.Call.{Outside, Wrote, WroteLess, Reads, usage_line, read_fault_line, script_line, trace_full_line}
 use Rattle.mdc.specs.Opened.{Stand, state_at, origin_of, Starts}
 use Rattle.mdc.specs.Playing.{AtPlace, Playing, Plays, SoFar, CutShort, Halted, RanFull}
-use Rattle.mdc.specs.Answers.{Judged, PlayAnswers, AnswersTo, Answers, Ran, PlaysFirst, PlaysFull, PlaysSome, ReadsScript, ReadsNone}
+use Rattle.mdc.specs.Answers.{Judged, PlayAnswers, AnswersTo, Answers, Ran, PlaysFirst, PlaysFull, ReadsScript, ReadsNone}
 use Rattle.mdc.specs.Answers.RunText.{first_lines, then_full}
 use Rattle.mdc.specs.Answers.IsText.{no_input, no_script, of_run}
 use Rattle.mdc.specs.LockAnswers.{ReadsLocks, ReadsNoLocks, LocksJudged, LockAnswers, FaultTold}

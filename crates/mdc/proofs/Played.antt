@@ -1,11 +1,10 @@
 -- Lines one after another.
-use Rattle.std.proofs.Common.{◌≡◌, inl, inr, ℕ, ◌+◌, ◌<◌, ◌≤◌, Option, Some, None, Result, Ok, Err, List, [], ◌∷◌, ◌++◌, length, get_or, take, refl, sym, ◌∙◌, ap, subst, append_assoc, arith}
+use Rattle.std.proofs.Common.{◌≡◌, inl, inr, ℕ, ◌+◌, ◌<◌, Option, Some, Result, Ok, Err, List, [], ◌∷◌, ◌++◌, length, take, refl, sym, ◌∙◌, ap, subst, append_assoc, arith}
 use Rattle.std.specs.Prelude.{reverse, slice_get, OnOk, OnErr, IfOk}
-use Rattle.std.proofs.lemmas.List.{reverse-append, take_more, append-nil, take-append-le, length-append}
+use Rattle.std.proofs.lemmas.List.{reverse-append, take_more, take-append-le, length-append}
 use Rattle.std.proofs.lemmas.Option.{slice_get_within, get_or_from_slice_get}
-use Rattle.mdc_types.specs.declared.outcomes.Entry.{Entry}
 use Rattle.cluster_model.specs.State.{State}
-use Rattle.cluster_model.specs.Run.{Run, entry}
+use Rattle.cluster_model.specs.Run.{Run}
 use Rattle.script_text.specs.declared.script.Line.{Line}
 use Rattle.script_text.specs.declared.script.Line.TheVariants as line_kinds
 use Rattle.script_text.specs.Outside.{with_back, WroteFront, IsDue}

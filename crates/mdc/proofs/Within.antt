@@ -1,5 +1,5 @@
 -- Each write of a run is of a sector of the room, as the plain history's check takes it.
-use Rattle.std.proofs.Common.{◌≡◌, ◌<◌, ◌≤◌, ℕ, Bool, true, List, [], ◌∷◌, None, refl, subst, sym, ap, ◌∙◌, arith}
+use Rattle.std.proofs.Common.{◌≡◌, ◌<◌, ◌≤◌, ℕ, true, List, [], ◌∷◌, None, refl, subst, sym, ap, ◌∙◌, arith}
 use Rattle.std.specs.Prelude.{reverse, nat_lt, ◌↔◌, ◌+◌, length}
 use Rattle.std.specs.List.{All}
 use Rattle.std.proofs.lemmas.Bool.Decides.{nat_tests}
@@ -27,7 +27,7 @@ use Rattle.cluster_model.specs.Writes.{w_guards}
 use Rattle.cluster_model.specs.Table.{refusal}
 use Rattle.cluster_model.specs.After.{after}
 use Rattle.cluster_model.specs.Run.{Run, Step, Moves}
-use Rattle.cluster_model.specs.Opening.{Origin, core_at}
+use Rattle.cluster_model.specs.Opening.{Origin}
 use Rattle.cluster_model.specs.Contents.{Opens}
 use Rattle.laws_locks.specs.Rounded.{Rounded}
 use Rattle.laws_sound.specs.Laws.{InRange}

@@ -1,5 +1,5 @@
 -- The array of a script's header, its legs in memory, and where the script starts.
-use Rattle.std.specs.Prelude.{◌≡◌, ◌<◌, ◌==◌, ℕ, Bool, true, false, List, [], ◌∷◌, length}
+use Rattle.std.specs.Prelude.{◌≡◌, ◌<◌, ◌==◌, ℕ, Bool, true, List, [], ◌∷◌, length}
 use Rattle.std.specs.Prelude.{if◌then◌else◌, get_or, Some}
 use Rattle.mdc_types.specs.Geometry.{Sizes, length_of}
 use Rattle.mdc_types.specs.Sectors.{zero_sector}
@@ -9,7 +9,7 @@ use Rattle.leg_store.specs.Memory.{Memory}
 use Rattle.leg_store.specs.declared.memory.Left.{Left}
 use Rattle.leg_store.specs.declared.memory.Left.TheVariants.{Old, New}
 use Rattle.plain_history.specs.History.{values_at}
-use Rattle.cluster_model.specs.State.{State, Legs}
+use Rattle.cluster_model.specs.State.{State}
 use Rattle.cluster_model.specs.Opening.{Origin, header_at}
 use Rattle.cluster_model.specs.Contents.{Opens, IsHeader, SoundOpening, header_sector}
 use Rattle.cluster_model.specs.Run.{Run}
