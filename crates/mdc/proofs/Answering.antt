@@ -1,17 +1,15 @@
 -- From the lines that were played to what the program answers.
-use Rattle.std.proofs.Common.{◌≡◌, inl, inr, ℕ, ◌<◌, ◌≤◌, ◌⊎◌, arith, Option, Some, None, Ok, Err, Bool, true, false, cond, List, [], ◌∷◌, ◌++◌, length, take, refl, sym, ◌∙◌, ap, subst}
-use Rattle.std.specs.Prelude.{reverse, slice_get, codes, IfSome}
+use Rattle.std.proofs.Common.{◌≡◌, inl, inr, ℕ, ◌≤◌, Option, Some, None, Ok, Err, Bool, true, false, cond, List, [], ◌∷◌, ◌++◌, length, take, refl, sym, ◌∙◌, ap, subst}
+use Rattle.std.specs.Prelude.{reverse, codes, IfSome}
 use Rattle.std.proofs.lemmas.List.{append_assoc}
 use Rattle.std.proofs.Math.Seq.{take-length}
 use Rattle.mdc_types.specs.Faults.{Rose}
-use Rattle.mdc_types.specs.Roles.{role_of}
-use Rattle.mdc_types.specs.declared.roles.Role.TheVariants.{Spare}
 use Rattle.mdc_types.specs.declared.outcomes.Entry.{Entry}
 use Rattle.cluster_model.specs.State.{State}
+use Rattle.cluster_model.specs.Contents.{SoundOpening}
 use Rattle.cluster_model.specs.Run.{Run}
-use Rattle.laws_history.specs.Laws.{WorkingLegsTell}
+use Rattle.laws_roles.specs.Laws.{Tells}
 use Rattle.laws_history.proofs.Places.{runs_cut, legs_tell}
-use Rattle.laws_history.proofs.Runs.{runs_legal, runs_fresh}
 use Rattle.cluster_core.specs.World.{trace_limit}
 use Rattle.script_text.specs.declared.command.Command.{Command}
 use Rattle.script_text.specs.declared.command.Command.TheVariants as commands
@@ -28,9 +26,9 @@ use Rattle.script_text.specs.Words.{command_of}
 use Rattle.script_text.proofs.DueLaws.{due_all, due_cut_all}
 use Rattle.std.specs.Str.{bytes_eq}
 use Rattle.mdc.specs.Call.{Outside, Wrote, WroteLess, Reads, usage_line, read_fault_line, script_line, trace_full_line}
-use Rattle.mdc.specs.Opened.{Stand, state_at, origin_of, base_of, Starts}
+use Rattle.mdc.specs.Opened.{Stand, state_at, origin_of, Starts}
 use Rattle.mdc.specs.Playing.{AtPlace, Playing, Plays, SoFar, CutShort, Halted, RanFull}
-use Rattle.mdc.specs.Answers.{Judged, PlayAnswers, AnswersTo, Answers, Ran, PlaysFirst, PlaysFull, PlaysSome, ReadsScript, ReadsNone}
+use Rattle.mdc.specs.Answers.{Judged, PlayAnswers, AnswersTo, Answers, Ran, PlaysFirst, PlaysFull, ReadsScript, ReadsNone}
 use Rattle.mdc.specs.Answers.RunText.{first_lines, then_full}
 use Rattle.mdc.specs.Answers.IsText.{no_input, no_script, of_run}
 use Rattle.mdc.specs.LockAnswers.{ReadsLocks, ReadsNoLocks, LocksJudged, LockAnswers, FaultTold}
@@ -38,10 +36,9 @@ use Rattle.mdc.specs.LockAnswers.LocksCut.{at_input, at_fault, in_run}
 use Rattle.mdc.specs.WireAnswers.WireCut.{at_input as at_wire_input}
 use Rattle.mdc.specs.declared.status.Status.{Status}
 use Rattle.mdc.specs.declared.status.Status.TheVariants as statuses
+use Rattle.mdc.proofs.Headline.{promises_at, legal_at}
 use Rattle.mdc.proofs.Played.{run_of}
-
-leg_cases : (l legs : ℕ) → (l < legs) ⊎ (legs ≤ l)
-leg_cases l legs = grind arith
+use Rattle.mdc.proofs.SoundStart.{sound_start, tells_start}
 
 -- more behind what is due
 behind : (w now : Option (List ℕ)) (text waiting more : List ℕ) → IsDue w text waiting now
@@ -53,11 +50,11 @@ behind w now text waiting more d = record {
 }
 
 module _ (script : ScriptValue) (start : Stand) (starts : Starts script start) where
-  pub working_tell : WorkingLegsTell (origin_of script.start) (state_at start).legs
-  working_tell l works = elim (leg_cases l script.start.legs) [
-    | inl lt ↦ starts.told l lt
-    | inr le ↦ let spare : role_of (origin_of script.start).roles l ≡ Spare = starts.opens.origin.legs l le in cc
-  ]
+  sound : SoundOpening (origin_of script.start) (state_at start)
+  sound = sound_start script start starts
+
+  tells : Tells (origin_of script.start) (state_at start)
+  tells = tells_start script start starts
 
   -- up to each place and from there on it is a run, by the laws of all runs
   place_of : (before later : List Entry) (end : State)
@@ -70,27 +67,27 @@ module _ (script : ScriptValue) (start : Stand) (starts : Starts script start) w
         run = place.before;
         rest = place.after;
         told = λ l lt. legs_tell (state_at start) before place.state place.before l ∙ starts.told l lt;
-        fresh = λ requests. runs_fresh (origin_of script.start) (state_at start) before place.state starts.opens requests place.before;
+        promises = promises_at (origin_of script.start) (state_at start) place.state before sound tells place.before;
       }
 
   playing_of : (lines : List Line) (end : Stand) (text : List ℕ)
-      → Plays (base_of script.start) start (reverse lines) end text
+      → Plays start (reverse lines) end text
       → length end.past ≤ trace_limit → Playing script lines end text
   playing_of lines end text plays few =
-      let run = run_of (base_of script.start) start starts.none (reverse lines) end text plays in
+      let run = run_of start starts.none (reverse lines) end text plays in
       record {
         start = start;
         starts = starts;
         plays = plays;
         run = run;
         few = few;
-        legal = λ requests. runs_legal (origin_of script.start) (state_at start) end.past (state_at end) starts.opens working_tell requests run;
+        legal = legal_at (origin_of script.start) (state_at start) (state_at end) end.past sound tells run;
         places = λ before later is. place_of before later (state_at end) (subst (λ p. Run (state_at start) p (state_at end)) is run);
       }
 
   module _ (end : Stand) (few : length end.past ≤ trace_limit) (w mid now : Option (List ℕ)) where
     module _ (waiting : List ℕ)
-        (a : SoFar (base_of script.start) start script.lines end w waiting mid) where
+        (a : SoFar start script.lines end w waiting mid) where
       pub ran_all : now ≡ with_back mid waiting → Ran script w now statuses.Done
       ran_all wrote = (
         a.text,
@@ -100,8 +97,8 @@ module _ (script : ScriptValue) (start : Stand) (starts : Starts script start) w
         ),
       )
 
-      whole : Plays (base_of script.start) start (reverse (take (length script.lines) script.lines)) end a.text
-      whole = subst (λ lines. Plays (base_of script.start) start (reverse lines) end a.text) (sym (take-length script.lines)) a.plays
+      whole : Plays start (reverse (take (length script.lines) script.lines)) end a.text
+      whole = subst (λ lines. Plays start (reverse lines) end a.text) (sym (take-length script.lines)) a.plays
 
       pub ran_all_cut : WroteFront mid waiting now → Ran script w now statuses.WriteFault
       ran_all_cut front = (
@@ -116,7 +113,7 @@ module _ (script : ScriptValue) (start : Stand) (starts : Starts script start) w
       )
 
     module _ (waiting : List ℕ)
-        (h : Halted (base_of script.start) start script.lines end w waiting mid) where
+        (h : Halted start script.lines end w waiting mid) where
       first : PlaysFirst script h.count h.first.text
       first = record {
         end = end;
@@ -136,7 +133,7 @@ module _ (script : ScriptValue) (start : Stand) (starts : Starts script start) w
       ran_some_cut front = (h.first.text, (first_lines first, due_cut_all w mid now h.first.text waiting h.first.due front))
 
     module _ (waiting : List ℕ)
-        (f : RanFull (base_of script.start) start script.lines end w waiting mid) where
+        (f : RanFull start script.lines end w waiting mid) where
       full : PlaysFull script f.first.text
       full = record {
         count = f.count;
@@ -159,7 +156,7 @@ module _ (script : ScriptValue) (start : Stand) (starts : Starts script start) w
       ran_full_cut front = (f.first.text ++ trace_full_line, (then_full full, due_cut_all w mid now _ _ due front))
 
   pub ran_cut : (end : Stand) → length end.past ≤ trace_limit → (w now : Option (List ℕ))
-      → CutShort (base_of script.start) start script.lines end w now
+      → CutShort start script.lines end w now
       → Ran script w now statuses.WriteFault
   ran_cut end few w now c = (
     c.text,

@@ -1,26 +1,22 @@
 -- The legs of a header, and what a world over them has.
-use Rattle.std.proofs.Common.{◌≡◌, ◌⊎◌, inl, inr, ℕ, ◌+◌, ◌-◌, ◌<◌, ◌≤◌, ◌==◌, Bool, true, false, nat_lt, List, [], ◌∷◌, ◌++◌, map, take, length, get_or, if◌then◌else◌, Some, None, Result, Ok, Err, refl, sym, ◌∙◌, ap, subst, arith}
-use Rattle.std.specs.Prelude.{is_ok, is_some, replicate, codes}
+use Rattle.std.proofs.Common.{◌≡◌, ◌⊎◌, inl, inr, ℕ, ◌+◌, ◌-◌, ◌<◌, ◌≤◌, ◌==◌, Bool, true, false, List, [], ◌∷◌, ◌++◌, map, take, length, get_or, if◌then◌else◌, Some, None, Result, Ok, Err, refl, sym, ◌∙◌, ap, subst, arith}
+use Rattle.std.specs.Prelude.{is_some}
 use Rattle.std.proofs.lemmas.Bool.Decides.{nat_tests}
 use Rattle.std.proofs.lemmas.List.{get_or-map, length-map, length-append, get_or_append_left, get_or-append_right, take_more, append-nil}
 use Rattle.mdc_types.specs.Geometry.{Sizes, length_of, nodes_of}
-use Rattle.mdc_types.specs.Sectors.{zero_sector}
-use Rattle.mdc_types.specs.declared.geometry.GeomError.{GeomError}
 use Rattle.mdc_types.specs.declared.geometry.GeomError.TheVariants.{Legs, Sectors, Room, Chunk, Bits}
 use Rattle.leg_store.specs.Memory.{Memory, told, plan_of}
-use Rattle.leg_store.specs.Plans.{Plan}
-use Rattle.cluster_model.specs.State.{State}
 use Rattle.cluster_model.specs.Opening.{Origin, IsOrigin, header_at, core_at}
-use Rattle.cluster_model.specs.Contents.{Opens, IsHeader, IsImages, header_sector}
-use Rattle.world_state.specs.Kept.{Kept, core_of}
-use Rattle.world_state.specs.Told.{Fits, LegsSeen, legs_of, state_with, seen_of, plan_at}
-use Rattle.script_text.specs.Header.{start_sizes, most_nodes}
+use Rattle.cluster_model.specs.Contents.{Opens, IsHeader, header_sector}
+use Rattle.world_state.specs.Kept.{core_of}
+use Rattle.world_state.specs.Told.{Fits, legs_of, seen_of}
+use Rattle.script_text.specs.Header.{start_sizes}
 use Rattle.script_text.specs.Script.{ScriptValue}
 use Rattle.script_text.specs.declared.script.Start.{Start}
 use Rattle.script_text.specs.declared.script.FaultLine.{FaultLine}
 use Rattle.leg_store.specs.declared.memory.Left.{Left}
 use Rattle.cluster_core.specs.World.{Seen}
-use Rattle.mdc.specs.Opened.{left_by, stand, state_at, Starts, IsNewLeg, AreNewLegs, origin_of, sizes_of, faults_of, no_leg, AllTold, FailAsAsked}
+use Rattle.mdc.specs.Opened.{left_by, stand, state_at, Starts, IsNewLeg, AreNewLegs, origin_of, sizes_of, faults_of, no_leg}
 
 module _ (o : Origin) (faults : List FaultLine) (legs : List Memory)
     (are : AreNewLegs o faults o.sizes.legs legs) where
@@ -83,6 +79,7 @@ module _ (o : Origin) (faults : List FaultLine) (legs : List Memory)
               core = core;
               contents = rw are_legs (inl new_header);
             });
+            header = subst (λ o. IsHeader o (state_at (stand w)).legs) is_origin (rw are_legs new_header);
             none = none;
             told = rw are_legs (λ l lt. new_told l (omega (arith, lt, legs_is)));
             plans = rw (are_legs, ← is_faults) (λ l lt. new_plans l (omega (arith, lt, legs_is)));

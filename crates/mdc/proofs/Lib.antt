@@ -1,3 +1,5 @@
+mod Headline
+mod SoundStart
 mod Within
 mod Header
 mod Played

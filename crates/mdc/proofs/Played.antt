@@ -1,13 +1,10 @@
 -- Lines one after another.
-use Rattle.std.proofs.Common.{◌≡◌, inl, inr, ℕ, ◌+◌, ◌<◌, ◌≤◌, Option, Some, None, Result, Ok, Err, List, [], ◌∷◌, ◌++◌, length, get_or, take, refl, sym, ◌∙◌, ap, subst, append_assoc, arith}
+use Rattle.std.proofs.Common.{◌≡◌, inl, inr, ℕ, ◌+◌, ◌<◌, Option, Some, Result, Ok, Err, List, [], ◌∷◌, ◌++◌, length, take, refl, sym, ◌∙◌, ap, subst, append_assoc, arith}
 use Rattle.std.specs.Prelude.{reverse, slice_get, OnOk, OnErr, IfOk}
-use Rattle.std.proofs.lemmas.List.{reverse-append, take_more, append-nil, take-append-le, length-append}
+use Rattle.std.proofs.lemmas.List.{reverse-append, take_more, take-append-le, length-append}
 use Rattle.std.proofs.lemmas.Option.{slice_get_within, get_or_from_slice_get}
-use Rattle.mdc_types.specs.declared.numbers.Sector.{Sector}
-use Rattle.mdc_types.specs.declared.outcomes.Entry.{Entry}
 use Rattle.cluster_model.specs.State.{State}
-use Rattle.cluster_model.specs.Run.{Run, entry}
-use Rattle.laws_history.proofs.Places.{legs_tell}
+use Rattle.cluster_model.specs.Run.{Run}
 use Rattle.script_text.specs.declared.script.Line.{Line}
 use Rattle.script_text.specs.declared.script.Line.TheVariants as line_kinds
 use Rattle.script_text.specs.Outside.{with_back, WroteFront, IsDue}
@@ -65,8 +62,8 @@ line_front before now waiting text w =
 
 -- Lines.
 
-module _ (base : ℕ → List Sector) (start : Stand) where
-  pub begins : (w : Option (List ℕ)) → SoFar base start [] start w [] w
+module _ (start : Stand) where
+  pub begins : (w : Option (List ℕ)) → SoFar start [] start w [] w
   begins w = record { text = []; plays = (refl, refl); due = due_start w }
 
   module _ (lines : List Line) (i : ℕ) (line : Line) (is : slice_get lines i ≡ Some line) where
@@ -79,9 +76,9 @@ module _ (base : ℕ → List Sector) (start : Stand) where
         ∙ reverse-append (take i lines) (line ∷ [])
 
     module _ (mid : Stand) (w s : Option (List ℕ)) (waiting : List ℕ)
-        (a : SoFar base start (take i lines) mid w waiting s) where
-      played : (end : Stand) (more : List ℕ) → Takes base mid line end more
-          → Plays base start (reverse (take (i + 1) lines)) end (a.text ++ printed more)
+        (a : SoFar start (take i lines) mid w waiting s) where
+      played : (end : Stand) (more : List ℕ) → Takes mid line end more
+          → Plays start (reverse (take (i + 1) lines)) end (a.text ++ printed more)
       played end more t = rw newest (record {
         mid = mid;
         said = a.text;
@@ -93,8 +90,8 @@ module _ (base : ℕ → List Sector) (start : Stand) where
 
       -- a line more
       pub next_line : (end : Stand) (more rest : List ℕ) (now : Option (List ℕ))
-          → Takes base mid line end more → IsDue s (waiting ++ printed more) rest now
-          → SoFar base start (take (i + 1) lines) end w rest now
+          → Takes mid line end more → IsDue s (waiting ++ printed more) rest now
+          → SoFar start (take (i + 1) lines) end w rest now
       next_line end more rest now t due = record {
         text = a.text ++ printed more;
         plays = played end more t;
@@ -103,8 +100,8 @@ module _ (base : ℕ → List Sector) (start : Stand) where
 
       -- a line more, whose text was cut off
       pub cut_at : (end : Stand) (more : List ℕ) (now : Option (List ℕ))
-          → Takes base mid line end more → WroteFront s (waiting ++ printed more) now
-          → CutShort base start lines end w now
+          → Takes mid line end more → WroteFront s (waiting ++ printed more) now
+          → CutShort start lines end w now
       cut_at end more now t front = record {
         count = i + 1;
         text = a.text ++ printed more;
@@ -114,12 +111,12 @@ module _ (base : ℕ → List Sector) (start : Stand) where
 
       -- memory is wanting for the line
       pub halt_at : (rest : List ℕ) (now : Option (List ℕ)) → now ≡ s → rest ≡ waiting
-          → Halted base start lines mid w rest now
+          → Halted start lines mid w rest now
       halt_at rest now same also = record { count = i; few = there; first = rw (same, also) a }
 
       -- an event finds the trace full
       pub full_at : (rest : List ℕ) (now : Option (List ℕ)) → FindsFull mid line → now ≡ s
-          → rest ≡ waiting → RanFull base start lines mid w rest now
+          → rest ≡ waiting → RanFull start lines mid w rest now
       full_at rest now f same also = record {
         count = i;
         first = rw (same, also) a;
@@ -134,42 +131,23 @@ same_run : (start : State) (mid end : Stand) → end ≡ mid → Run start mid.p
     → Run start end.past (state_at end)
 same_run start mid end is run = rw is run
 
-moves_on : (base : ℕ → List Sector) (start : State) (mid end : Stand) (line : Line) (more : List ℕ)
-    → Takes base mid line end more → Run start mid.past (state_at mid)
+pub moves_on : (start : State) (mid end : Stand) (line : Line) (more : List ℕ)
+    → Takes mid line end more → Run start mid.past (state_at mid)
     → Run start end.past (state_at end)
-moves_on base start mid end (line_kinds.Event e) more (inl r) run = same_run start mid end r.same run
-moves_on base start mid end (line_kinds.Event e) more (inr a) run =
+moves_on start mid end (line_kinds.Event e) more (inl r) run = same_run start mid end r.same run
+moves_on start mid end (line_kinds.Event e) more (inr a) run =
     subst (λ past. Run start past (state_at end)) (sym a.entries) (state_at mid, run, a.carries.step)
-moves_on base start mid end line_kinds.Check more t run = same_run start mid end t.0 run
-moves_on base start mid end (line_kinds.View n) more t run = same_run start mid end t.0 run
-moves_on base start mid end (line_kinds.Map n) more t run = same_run start mid end t.0 run
-moves_on base start mid end (line_kinds.Slot l d) more t run = same_run start mid end t.0 run
-moves_on base start mid end line_kinds.Record more t run = same_run start mid end t.0 run
-moves_on base start mid end (line_kinds.Size n) more t run = same_run start mid end t.0 run
+moves_on start mid end line_kinds.Check more t run = same_run start mid end t.0 run
+moves_on start mid end (line_kinds.View n) more t run = same_run start mid end t.0 run
+moves_on start mid end (line_kinds.Map n) more t run = same_run start mid end t.0 run
+moves_on start mid end (line_kinds.Slot l d) more t run = same_run start mid end t.0 run
+moves_on start mid end line_kinds.Record more t run = same_run start mid end t.0 run
+moves_on start mid end (line_kinds.Size n) more t run = same_run start mid end t.0 run
 
-pub run_of : (base : ℕ → List Sector) (start : Stand) → start.past ≡ [] → (lines : List Line)
-    (end : Stand) (text : List ℕ) → Plays base start lines end text
+pub run_of : (start : Stand) → start.past ≡ [] → (lines : List Line)
+    (end : Stand) (text : List ℕ) → Plays start lines end text
     → Run (state_at start) end.past (state_at end)
-run_of base start none [] end text played = rw (played.0, none) refl
-run_of base start none (line ∷ lines) end text played =
-    moves_on base (state_at start) played.mid end line played.more played.takes
-    (run_of base start none lines played.mid played.said played.earlier)
-
--- no line changes whether a leg tells its contents
-
-same_told : (mid end : Stand) → end ≡ mid → (l : ℕ)
-    → (state_at end).legs.told l ≡ (state_at mid).legs.told l
-same_told mid end is l = ap (λ at. (state_at at).legs.told l) is
-
-pub takes_told : (base : ℕ → List Sector) (mid end : Stand) (line : Line) (more : List ℕ)
-    → Takes base mid line end more → (l : ℕ)
-    → (state_at end).legs.told l ≡ (state_at mid).legs.told l
-takes_told base mid end (line_kinds.Event e) more (inl r) l = same_told mid end r.same l
-takes_told base mid end (line_kinds.Event e) more (inr a) l =
-    legs_tell (state_at mid) (entry e a.outcome ∷ []) (state_at end) (state_at mid, refl, a.carries.step) l
-takes_told base mid end line_kinds.Check more t l = same_told mid end t.0 l
-takes_told base mid end (line_kinds.View n) more t l = same_told mid end t.0 l
-takes_told base mid end (line_kinds.Map n) more t l = same_told mid end t.0 l
-takes_told base mid end (line_kinds.Slot k d) more t l = same_told mid end t.0 l
-takes_told base mid end line_kinds.Record more t l = same_told mid end t.0 l
-takes_told base mid end (line_kinds.Size n) more t l = same_told mid end t.0 l
+run_of start none [] end text played = rw (played.0, none) refl
+run_of start none (line ∷ lines) end text played =
+    moves_on (state_at start) played.mid end line played.more played.takes
+    (run_of start none lines played.mid played.said played.earlier)

@@ -1,5 +1,5 @@
 -- Each write of a run is of a sector of the room, as the plain history's check takes it.
-use Rattle.std.proofs.Common.{◌≡◌, ◌<◌, ◌≤◌, ℕ, Bool, true, List, [], ◌∷◌, None, refl, subst, sym, ap, ◌∙◌, arith}
+use Rattle.std.proofs.Common.{◌≡◌, ◌<◌, ◌≤◌, ℕ, true, List, [], ◌∷◌, None, refl, subst, sym, ap, ◌∙◌, arith}
 use Rattle.std.specs.Prelude.{reverse, nat_lt, ◌↔◌, ◌+◌, length}
 use Rattle.std.specs.List.{All}
 use Rattle.std.proofs.lemmas.Bool.Decides.{nat_tests}
@@ -17,16 +17,17 @@ use Rattle.plain_history.specs.History.{Legal, values_at}
 use Rattle.plain_history.specs.Runs.{IsFirstBad}
 use Rattle.plain_history.specs.declared.checks.Checked.{Checked}
 use Rattle.plain_history.specs.declared.checks.Checked.TheVariants as checks
-use Rattle.laws_history.specs.Laws.{AllOfRequests}
+use Rattle.cluster_core.specs.World.{Seen, state}
 use Rattle.report_text.specs.Queries.{bad_line}
 use Rattle.mdc.specs.QueryAnswers.{Checks}
 use Rattle.mdc.specs.QueryAnswers.Judges.{first_bad}
+use Rattle.mdc.proofs.Headline.{legal_at}
 use Rattle.cluster_model.specs.State.{Core, State, Legs, sizes}
 use Rattle.cluster_model.specs.Writes.{w_guards}
 use Rattle.cluster_model.specs.Table.{refusal}
 use Rattle.cluster_model.specs.After.{after}
 use Rattle.cluster_model.specs.Run.{Run, Step, Moves}
-use Rattle.cluster_model.specs.Opening.{Origin, core_at}
+use Rattle.cluster_model.specs.Opening.{Origin}
 use Rattle.cluster_model.specs.Contents.{Opens}
 use Rattle.laws_locks.specs.Rounded.{Rounded}
 use Rattle.laws_sound.specs.Laws.{InRange}
@@ -93,16 +94,15 @@ module _ (o : Origin) (start : State) (opens : Opens o start) where
       subst (All Within) (sym (reverse-append (x ∷ []) past))
       (All-append Within (reverse past) (x ∷ []) (runs_within past run.0 run.1) (All-cons Within x [] here (All-nil Within)))
 
--- What the check of a trace answers where an entry isn't legal: no run of requests has one.
-pub checks_bad : (lists base : List (List Sector)) (past trace : List Entry) (place : ℕ)
-    (answer : Checked) (text : List ℕ) → lists ≡ base → past ≡ reverse trace
+-- What the check of a trace answers where an entry isn't legal: no run from a sound opening has one.
+pub checks_bad : (seen : Seen) (lists : List (List Sector)) (trace : List Entry) (place : ℕ)
+    (answer : Checked) (text : List ℕ) → lists ≡ seen.origin.base → seen.past ≡ reverse trace
     → IsFirstBad (values_at lists) trace place → text ≡ bad_line (place + 1)
-    → (AllOfRequests past → Legal (values_at base) past)
     → ((answer ≡ checks.Legal) ↔ Legal (values_at lists) (reverse trace))
-    → answer ≡ checks.FirstBad place → Checks (values_at base) past text
-checks_bad lists base past trace place answer text is are bad says legal iff found = record {
+    → answer ≡ checks.FirstBad place → Checks seen text
+checks_bad seen lists trace place answer text is are bad says iff found = record {
   judges = first_bad place (rw (← is, are, reverse-reverse trace) bad) says;
-  requests = λ requests. absurd (none (iff.1 (rw (is, ← are) (legal requests))));
+  sound = λ c. absurd (none (iff.1 (rw (is, ← are) (legal_at seen.origin c.start (state seen) seen.past c.sound c.tells c.run))));
 }
   where
     none : answer ≡ checks.Legal → ⊥

@@ -1,5 +1,5 @@
 -- The array of a script's header, its legs in memory, and where the script starts.
-use Rattle.std.specs.Prelude.{◌≡◌, ◌<◌, ◌==◌, ℕ, Bool, true, false, List, [], ◌∷◌, length}
+use Rattle.std.specs.Prelude.{◌≡◌, ◌<◌, ◌==◌, ℕ, Bool, true, List, [], ◌∷◌, length}
 use Rattle.std.specs.Prelude.{if◌then◌else◌, get_or, Some}
 use Rattle.mdc_types.specs.Geometry.{Sizes, length_of}
 use Rattle.mdc_types.specs.Sectors.{zero_sector}
@@ -9,12 +9,14 @@ use Rattle.leg_store.specs.Memory.{Memory}
 use Rattle.leg_store.specs.declared.memory.Left.{Left}
 use Rattle.leg_store.specs.declared.memory.Left.TheVariants.{Old, New}
 use Rattle.plain_history.specs.History.{values_at}
-use Rattle.cluster_model.specs.State.{State, Legs}
+use Rattle.cluster_model.specs.State.{State}
 use Rattle.cluster_model.specs.Opening.{Origin, header_at}
-use Rattle.cluster_model.specs.Contents.{Opens, header_sector}
+use Rattle.cluster_model.specs.Contents.{Opens, IsHeader, SoundOpening, header_sector}
+use Rattle.cluster_model.specs.Run.{Run}
+use Rattle.laws_roles.specs.Laws.{Tells}
 use Rattle.world_state.specs.Kept.{Kept}
 use Rattle.world_state.specs.Told.{LegsSeen, state_with, plan_at}
-use Rattle.cluster_core.specs.World.{Seen}
+use Rattle.cluster_core.specs.World.{Seen, state}
 use Rattle.script_text.specs.declared.script.Start.{Start}
 use Rattle.script_text.specs.declared.script.FaultLine.{FaultLine}
 use Rattle.script_text.specs.Script.{ScriptValue}
@@ -33,6 +35,13 @@ stand w = record { kept = w.kept; legs = w.legs; past = w.past }
 -- the values of each sector at its opening
 abbrev pub base_at : Seen → ℕ → List Sector
 base_at w = values_at w.origin.base
+
+-- a run led the world here from a sound opening, over legs that tell their contents
+pub record ComesSound (w : Seen) : Type 0 where
+  pub start : State
+  pub sound : SoundOpening w.origin start
+  pub tells : Tells w.origin start
+  pub run : Run start w.past (state w)
 
 -- the machine's state there
 abbrev pub state_at : Stand → State
@@ -78,6 +87,7 @@ FailAsAsked script legs =
 -- before the first line: the opening of the header, over legs that fail as the script says
 pub record Starts (script : ScriptValue) (start : Stand) : Type 0 where
   pub opens : Opens (origin_of script.start) (state_at start)
+  pub header : IsHeader (origin_of script.start) (state_at start).legs
   pub none : start.past ≡ []
   pub told : AllTold script.start (state_at start)
   pub plans : FailAsAsked script start.legs

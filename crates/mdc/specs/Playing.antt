@@ -1,7 +1,6 @@
 -- What the lines of a script do, and what is printed for them.
 use Rattle.std.specs.Prelude.{◌≡◌, ◌⊎◌, ◌<◌, ◌≤◌, ℕ, List, [], ◌∷◌, ◌++◌, reverse, take, length}
 use Rattle.std.specs.Prelude.{slice_get, Option, Some, None}
-use Rattle.mdc_types.specs.declared.numbers.Sector.{Sector}
 use Rattle.mdc_types.specs.declared.events.Event.{Event}
 use Rattle.mdc_types.specs.declared.outcomes.Outcome.{Outcome}
 use Rattle.mdc_types.specs.declared.outcomes.Entry.{Entry}
@@ -10,7 +9,6 @@ use Rattle.plain_history.specs.History.{Legal, candidates}
 use Rattle.cluster_model.specs.State.{State}
 use Rattle.cluster_model.specs.Table.{refusal}
 use Rattle.cluster_model.specs.Run.{Run, entry}
-use Rattle.laws_history.specs.Laws.{AllOfRequests, NoServedLegIsStale}
 use Rattle.world_state.specs.Kept.{core_of}
 use Rattle.world_state.specs.Told.{Carries}
 use Rattle.cluster_core.specs.World.{trace_limit}
@@ -20,9 +18,11 @@ use Rattle.script_text.specs.declared.script.Start.{Start}
 use Rattle.script_text.specs.declared.script.Line.{Line}
 use Rattle.script_text.specs.declared.script.Line.TheVariants as line_kinds
 use Rattle.report_text.specs.Outcomes.{outcome_line}
+use Rattle.report_text.specs.Queries.{legal_line}
 use Rattle.mdc.specs.Call.{printed}
 use Rattle.mdc.specs.Opened.{Stand, state_at, base_of, AllTold, Starts}
-use Rattle.mdc.specs.QueryAnswers.{refused_line, query_line, Checks}
+use Rattle.mdc.specs.Promises.{Promises}
+use Rattle.mdc.specs.QueryAnswers.{refused_line, query_line}
 
 -- One line.
 
@@ -44,50 +44,51 @@ pub record Accepts (old : Stand) (e : Event) (new : Stand) (text : List ℕ) : T
 abbrev pub TakesEvent : Stand → Event → Stand → List ℕ → Type 0
 TakesEvent old e new text = Refuses old e new text ⊎ Accepts old e new text
 
--- one line, with its text: a query changes nothing
-abbrev pub Takes : (ℕ → List Sector) → Stand → Line → Stand → List ℕ → Type 0
-Takes base old (line_kinds.Event e) new text = TakesEvent old e new text
-Takes base old line_kinds.Check new text = (new ≡ old) × Checks base old.past text
-Takes base old query new text = (new ≡ old) × (text ≡ query_line old.kept query)
+-- one line, with its text: a query changes nothing, and `check` finds all entries legal
+abbrev pub Takes : Stand → Line → Stand → List ℕ → Type 0
+Takes old (line_kinds.Event e) new text = TakesEvent old e new text
+Takes old line_kinds.Check new text = (new ≡ old) × (text ≡ legal_line (length old.past))
+Takes old query new text = (new ≡ old) × (text ≡ query_line old.kept query)
 
 -- Lines one after another.
 
 -- a line more after others
-pub record AddsLine (base : ℕ → List Sector) (Earlier : Stand → List ℕ → Type 0) (line : Line)
-    (end : Stand) (text : List ℕ) : Type 0 where
+pub record AddsLine (Earlier : Stand → List ℕ → Type 0) (line : Line) (end : Stand)
+    (text : List ℕ) : Type 0 where
   pub mid : Stand
   pub said : List ℕ
   pub earlier : Earlier mid said
   pub more : List ℕ
-  pub takes : Takes base mid line end more
+  pub takes : Takes mid line end more
   pub says : text ≡ said ++ printed more
 
 -- The lines, the newest first, lead from start to end, and this text is printed for them in their
 -- order.
-abbrev pub Plays : (ℕ → List Sector) → Stand → List Line → Stand → List ℕ → Type 0
-Plays base start [] end text = (end ≡ start) × (text ≡ [])
-Plays base start (line ∷ lines) end text = AddsLine base (Plays base start lines) line end text
+abbrev pub Plays : Stand → List Line → Stand → List ℕ → Type 0
+Plays start [] end text = (end ≡ start) × (text ≡ [])
+Plays start (line ∷ lines) end text = AddsLine (Plays start lines) line end text
 
 -- A place of a run: up to there it is a run, and from there on. Each leg tells its contents there,
--- and no leg that an up node reads from is stale, where all events up to there are of requests.
+-- and all is as promised.
 pub record AtPlace (header : Start) (start : State) (before later : List Entry) (end : State)
     : Type 0 where
   pub here : State
   pub run : Run start before here
   pub rest : Run here later end
   pub told : AllTold header here
-  pub fresh : AllOfRequests before → NoServedLegIsStale (candidates (base_of header) before) here
+  pub promises : Promises (candidates (base_of header) before) start before here
 
 -- These lines were played from the header's opening. There is one trace, no longer than it may be,
--- and a run with just its entries; one of requests is a legal history.
+-- and a run with just its entries. Its reads and writes are one legal history, and at each of its
+-- places all is as promised, whatever its events are and whichever transfers failed.
 pub record Playing (script : ScriptValue) (lines : List Line) (end : Stand) (text : List ℕ)
     : Type 0 where
   pub start : Stand
   pub starts : Starts script start
-  pub plays : Plays (base_of script.start) start (reverse lines) end text
+  pub plays : Plays start (reverse lines) end text
   pub run : Run (state_at start) end.past (state_at end)
   pub few : length end.past ≤ trace_limit
-  pub legal : AllOfRequests end.past → Legal (base_of script.start) end.past
+  pub legal : Legal (base_of script.start) end.past
   pub places : (before later : List Entry) → end.past ≡ later ++ before
       → AtPlace script.start (state_at start) before later (state_at end)
 
@@ -105,32 +106,32 @@ abbrev pub SomeEnd : (Stand → Type 0) → Type 0
 SomeEnd Is = (end : Stand) × (length end.past ≤ trace_limit) × Is end
 
 -- the lines were played: a front of their text was written, and the rest waits
-pub record SoFar (base : ℕ → List Sector) (start : Stand) (lines : List Line) (end : Stand)
-    (written : Option (List ℕ)) (waiting : List ℕ) (now : Option (List ℕ)) : Type 0 where
+pub record SoFar (start : Stand) (lines : List Line) (end : Stand) (written : Option (List ℕ))
+    (waiting : List ℕ) (now : Option (List ℕ)) : Type 0 where
   pub text : List ℕ
-  pub plays : Plays base start (reverse lines) end text
+  pub plays : Plays start (reverse lines) end text
   pub due : IsDue written text waiting now
 
 -- the first of the lines were played, and a front of their text was written, but not all
-pub record CutShort (base : ℕ → List Sector) (start : Stand) (lines : List Line) (end : Stand)
+pub record CutShort (start : Stand) (lines : List Line) (end : Stand)
     (written now : Option (List ℕ)) : Type 0 where
   pub count : ℕ
   pub text : List ℕ
-  pub plays : Plays base start (reverse (take count lines)) end text
+  pub plays : Plays start (reverse (take count lines)) end text
   pub wrote : WroteFront written text now
 
 -- the first of the lines were played, and there is one more
-pub record Halted (base : ℕ → List Sector) (start : Stand) (lines : List Line) (end : Stand)
-    (written : Option (List ℕ)) (waiting : List ℕ) (now : Option (List ℕ)) : Type 0 where
+pub record Halted (start : Stand) (lines : List Line) (end : Stand) (written : Option (List ℕ))
+    (waiting : List ℕ) (now : Option (List ℕ)) : Type 0 where
   pub count : ℕ
   pub few : count < length lines
-  pub first : SoFar base start (take count lines) end written waiting now
+  pub first : SoFar start (take count lines) end written waiting now
 
 -- the first of the lines were played, and the next one finds the trace full
-pub record RanFull (base : ℕ → List Sector) (start : Stand) (lines : List Line) (end : Stand)
-    (written : Option (List ℕ)) (waiting : List ℕ) (now : Option (List ℕ)) : Type 0 where
+pub record RanFull (start : Stand) (lines : List Line) (end : Stand) (written : Option (List ℕ))
+    (waiting : List ℕ) (now : Option (List ℕ)) : Type 0 where
   pub count : ℕ
-  pub first : SoFar base start (take count lines) end written waiting now
+  pub first : SoFar start (take count lines) end written waiting now
   pub line : Line
   pub next : slice_get lines count ≡ Some line
   pub finds : FindsFull end line

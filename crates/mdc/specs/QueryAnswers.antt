@@ -13,13 +13,14 @@ use Rattle.node_bitmaps.specs.Map.{Map}
 use Rattle.node_bits.specs.Bitmaps.{map_at}
 use Rattle.plain_history.specs.History.{Legal}
 use Rattle.plain_history.specs.Runs.{IsFirstBad}
-use Rattle.laws_history.specs.Laws.{AllOfRequests}
 use Rattle.world_state.specs.Kept.{Kept, no_parts}
+use Rattle.cluster_core.specs.World.{Seen}
 use Rattle.script_text.specs.declared.script.Line.{Line}
 use Rattle.script_text.specs.declared.script.Line.TheVariants.{View, Map as MapOf, Slot, Record, Size}
 use Rattle.report_text.specs.Queries.{view_line, size_line, map_line, slot_line, record_line}
 use Rattle.report_text.specs.Queries.{legal_line, bad_line}
 use Rattle.report_text.specs.Refusals.{refusal_line}
+use Rattle.mdc.specs.Opened.{base_at, ComesSound}
 
 abbrev pub refused_line : Refusal → List ℕ
 refused_line r = codes "refused " ++ refusal_line r
@@ -60,7 +61,7 @@ pub data Judges (base : ℕ → List Sector) (past : List Entry) (text : List �
   first_bad : (i : ℕ) → IsFirstBad base (reverse past) i → text ≡ bad_line (i + 1)
       → Judges base past text
 
--- and a run of requests is legal
-pub record Checks (base : ℕ → List Sector) (past : List Entry) (text : List ℕ) : Type 0 where
-  pub judges : Judges base past text
-  pub requests : AllOfRequests past → text ≡ legal_line (length past)
+-- and where the opening is sound, the entries are legal
+pub record Checks (seen : Seen) (text : List ℕ) : Type 0 where
+  pub judges : Judges (base_at seen) seen.past text
+  pub sound : ComesSound seen → text ≡ legal_line (length seen.past)

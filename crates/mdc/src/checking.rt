@@ -1,7 +1,4 @@
 ghost use Rattle.std.specs.Prelude.{◌≡◌, length, IfOk, string_bytes};
-ghost use Rattle.laws_history.specs.Laws.{WorkingLegsTell};
-ghost use Rattle.cluster_core.specs.World.{state};
-ghost use Rattle.mdc.specs.Opened.{base_at};
 ghost use Rattle.mdc.specs.QueryAnswers.{Checks};
 
 use cluster_core::World;
@@ -12,9 +9,8 @@ use std::alloc::{AllocError, Global};
 
 /// The answer to `check`: the trace is run through the plain history.
 pub fn check_answer<L: LegDev>(alloc: Global, world: &World<L>) -> Result<String, AllocError>
-    requires told { WorkingLegsTell world.now.origin (state world.now).legs }
     requires base { length world.now.origin.base ≡ world.now.origin.sizes.room }
-    ensures { IfOk result (λ t. Checks (base_at world.now) world.now.past (string_bytes t)) }
+    ensures { IfOk result (λ t. Checks world.now (string_bytes t)) }
 {
     world.history();
     let trace = world.trace();

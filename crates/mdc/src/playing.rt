@@ -1,14 +1,12 @@
 ghost use Rattle.std.specs.Prelude.{◌≡◌, ◌≤◌, ◌++◌, ℕ, List, [], Err, IfOk, OnOk, OnErr, length};
 ghost use Rattle.std.specs.Prelude.{true, string_bytes};
 ghost use Rattle.mdc_types.specs.Faults.{Rose, HasCause};
-ghost use Rattle.laws_history.specs.Laws.{WorkingLegsTell};
-ghost use Rattle.cluster_core.specs.World.{state};
 ghost use Rattle.script_text.specs.Outside.{WroteFront, IsDue};
 ghost use Rattle.script_text.specs.declared.script.Line.TheVariants.{Event as event_line};
 ghost use Rattle.mdc.specs.Call.{printed};
 ghost use Rattle.mdc.specs.Playing.{TakesEvent, Takes, FindsFull, SomeEnd, SoFar, CutShort, Halted};
 ghost use Rattle.mdc.specs.Playing.{RanFull};
-ghost use Rattle.mdc.specs.Opened.{stand, base_at};
+ghost use Rattle.mdc.specs.Opened.{stand, ComesSound};
 
 use crate::checking::check_answer;
 use crate::queries::{
@@ -61,10 +59,10 @@ fn take_event<L: LegDev>(alloc: Global, world: &mut World<L>, e: Event) -> Resul
 
 // One line, and what is to be printed for it.
 fn take_line<L: LegDev>(alloc: Global, world: &mut World<L>, line: Line) -> Result<String, LineEnd>
-    requires told { WorkingLegsTell world.old.origin (state world.old).legs }
+    requires sound { ComesSound world.old }
     requires base { length world.old.origin.base ≡ world.old.origin.sizes.room }
     ensures ok { IfOk result (λ t.
-        Takes (base_at world.old) (stand world.old) line (stand world.new) (string_bytes t)) }
+        Takes (stand world.old) line (stand world.new) (string_bytes t)) }
     ensures full { result ≡ Err LineEnd.TraceFull → FindsFull (stand world.old) line }
     ensures same { result ≡ Err LineEnd.TraceFull → world.new ≡ world.old }
     ensures origin { world.new.origin ≡ world.old.origin }
@@ -104,14 +102,14 @@ fn play_line<L: LegDev, K: Sink>(
     out: &mut TextOut,
     sink: &mut K,
 ) -> Result<(), LinesEnd>
-    requires told { WorkingLegsTell world.old.origin (state world.old).legs }
+    requires sound { ComesSound world.old }
     requires base { length world.old.origin.base ≡ world.old.origin.sizes.room }
     ensures origin { world.new.origin ≡ world.old.origin }
     ensures ok { OnOk result ((text : List ℕ)
-        × (Takes (base_at world.old) (stand world.old) line (stand world.new) text
+        × (Takes (stand world.old) line (stand world.new) text
         × IsDue (K.written sink.old) (out.old ++ printed text) out.new (K.written sink.new))) }
     ensures write { result ≡ Err LinesEnd.Write → (text : List ℕ)
-        × (Takes (base_at world.old) (stand world.old) line (stand world.new) text
+        × (Takes (stand world.old) line (stand world.new) text
         × WroteFront (K.written sink.old) (out.old ++ printed text) (K.written sink.new)) }
     ensures rose { result ≡ Err LinesEnd.Write → Rose (K.faults sink.old) (K.faults sink.new) }
     ensures memory { result ≡ Err LinesEnd.Memory
@@ -138,21 +136,21 @@ pub fn play_lines<L: LegDev, K: Sink>(
     out: &mut TextOut,
     sink: &mut K,
 ) -> Result<(), LinesEnd>
-    requires told { WorkingLegsTell world.old.origin (state world.old).legs }
+    requires sound { ComesSound world.old }
     requires base { length world.old.origin.base ≡ world.old.origin.sizes.room }
     requires empty { out.old ≡ [] }
     ensures ok { OnOk result (SomeEnd (λ end.
-        SoFar (base_at world.old) (stand world.old) script.now.lines end
+        SoFar (stand world.old) script.now.lines end
         (K.written sink.old) out.new (K.written sink.new))) }
     ensures write { result ≡ Err LinesEnd.Write → SomeEnd (λ end.
-        CutShort (base_at world.old) (stand world.old) script.now.lines end
+        CutShort (stand world.old) script.now.lines end
         (K.written sink.old) (K.written sink.new)) }
     ensures rose { result ≡ Err LinesEnd.Write → Rose (K.faults sink.old) (K.faults sink.new) }
     ensures memory { result ≡ Err LinesEnd.Memory → SomeEnd (λ end.
-        Halted (base_at world.old) (stand world.old) script.now.lines end
+        Halted (stand world.old) script.now.lines end
         (K.written sink.old) out.new (K.written sink.new)) }
     ensures full { result ≡ Err LinesEnd.TraceFull → SomeEnd (λ end.
-        RanFull (base_at world.old) (stand world.old) script.now.lines end
+        RanFull (stand world.old) script.now.lines end
         (K.written sink.old) out.new (K.written sink.new)) }
     ensures later { K.faults sink.old ≤ K.faults sink.new }
 {

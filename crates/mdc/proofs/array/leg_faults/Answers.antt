@@ -1,5 +1,4 @@
-use Rattle.std.proofs.Common.{arith, ◌≡◌, ◌∙◌, ap, refl, ◌==◌, Bool, true, false, ℕ}
-use Rattle.std.proofs.lemmas.Bool.Decides.{nat_tests}
+use Rattle.std.proofs.Common.{◌∙◌, ap}
 use Rattle.std.proofs.lemmas.List.{get_or_default}
 use Rattle.mdc.proofs.Header.{faults_add, faults_skip, test_is, test_not}
 use Rattle.mdc.proofs.array.leg_faults.Goals as goal

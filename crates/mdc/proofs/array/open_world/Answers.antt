@@ -1,7 +1,4 @@
-use Rattle.std.proofs.Common.{inl, refl, sym, subst, ap, ◌∙◌, ◌≤◌}
-use Rattle.mdc_types.specs.Geometry.{Sizes, nodes_of}
-use Rattle.cluster_model.specs.Opening.{header_at}
-use Rattle.mdc.specs.Opened.{origin_of, sizes_of}
+use Rattle.std.proofs.Common.{inl, refl, ◌∙◌}
 use Rattle.mdc.proofs.Header.{new_fits, new_header, starts_of}
 use Rattle.mdc.proofs.array.open_world.Goals as goal
 

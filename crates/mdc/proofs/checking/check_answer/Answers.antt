@@ -4,8 +4,6 @@ use Rattle.std.specs.List.{All}
 use Rattle.std.proofs.lemmas.List.{length-map, reverse-reverse}
 use Rattle.mdc_types.specs.declared.outcomes.Entry.{Entry}
 use Rattle.plain_history.specs.Tables.{IsWithin}
-use Rattle.laws_history.proofs.Runs.{runs_legal}
-use Rattle.laws_history.proofs.Places.{legs_tell}
 use Rattle.mdc.proofs.Played.{if_ok}
 use Rattle.mdc.proofs.Within.{runs_within, checks_bad, few_places}
 use Rattle.mdc.proofs.checking.check_answer.Goals as goal
@@ -27,10 +25,7 @@ overflow_add-place g c =
 
 pub returns-in-FirstBad : goal.returns-in-FirstBad
 returns-in-FirstBad g c =
-    let h = c.history.ensures in
-    let o = c.args.world.now.origin in
     let base = c.base.ensures ∙ ap (λ o. o.base) c.opening.ensures in
     let bad = c.check.ensures.first c.in-FirstBad.place (c.in_ok-check.was ∙ ap Ok c.in-FirstBad.is) in
-    if_ok c.bad_text.result (λ t says. checks_bad _ o.base c.args.world.now.past c.trace-trace.result.now c.in-FirstBad.place c.in_ok-check.field-0 _ base c.trace-trace.ensures bad says
-    (λ requests. runs_legal o h.start c.args.world.now.past _ h.opens (λ l works. sym (legs_tell h.start c.args.world.now.past _ h.run l) ∙ c.requires.told l works) requests h.run)
+    if_ok c.bad_text.result (λ t says. checks_bad c.args.world.now _ c.trace-trace.result.now c.in-FirstBad.place c.in_ok-check.field-0 _ base c.trace-trace.ensures bad says
     c.in_ok-check.ensures.legal c.in-FirstBad.is) c.bad_text.ensures

@@ -1,39 +1,38 @@
-use Rattle.std.proofs.Common.{arith, ◌≡◌, ◌∙◌, sym, subst, length}
-use Rattle.plain_history.specs.History.{values_at}
+use Rattle.std.proofs.Common.{arith, ◌≡◌, ◌∙◌, refl, sym, subst, length}
 use Rattle.cluster_model.specs.Opening.{Origin}
-use Rattle.laws_history.specs.Laws.{WorkingLegsTell}
-use Rattle.cluster_core.specs.World.{state}
 use Rattle.mdc.specs.Opened.{stand}
-use Rattle.mdc.specs.Playing.{Takes}
-use Rattle.mdc.proofs.Played.{takes_told, next_line, cut_at, halt_at, full_at}
+use Rattle.mdc.proofs.Played.{begins, next_line, cut_at, halt_at, full_at}
+use Rattle.mdc.proofs.SoundStart.{sound_on}
 use Rattle.mdc.proofs.playing.play_lines.Goals as goal
-
-pub play_line-played-requires-clause-told : goal.play_line-played-requires-clause-told
-play_line-played-requires-clause-told g c =
-    subst (λ o. WorkingLegsTell o (state c.loop-i.world).legs) (sym c.loop-i.invariant.origin) c.loop-i.invariant.told
 
 pub play_line-played-requires-clause-base : goal.play_line-played-requires-clause-base
 play_line-played-requires-clause-base g c =
     subst (λ (o : Origin). length o.base ≡ o.sizes.room) (sym c.loop-i.invariant.origin) c.requires.base
 
+pub loop-i-init : goal.loop-i-init
+loop-i-init g c = record {
+  sofar = rw c.requires.empty (begins (stand c.args.world.now) (g.K.Sink.written c.args.sink.now));
+  origin = refl;
+  sound = c.requires.sound;
+  later = omega arith;
+}
+
 pub loop-i-preserved : goal.loop-i-preserved
 loop-i-preserved g c =
     let t = c.in-Ok.ensures.ok in
-    let takes = subst (λ (o : Origin). Takes (values_at o.base) (stand c.loop-i.world) c.line.result (stand c.play_line-played.new.world) t.0) c.loop-i.invariant.origin t.1.0 in
     record {
-      sofar = next_line (values_at c.args.world.now.origin.base) (stand c.args.world.now) c.args.script.now.lines c.loop-i.i c.line.result c.line.ensures (stand c.loop-i.world) _ _ _ c.loop-i.invariant.sofar (stand c.play_line-played.new.world) t.0 _ _ takes t.1.1;
+      sofar = next_line (stand c.args.world.now) c.args.script.now.lines c.loop-i.i c.line.result c.line.ensures (stand c.loop-i.world) _ _ _ c.loop-i.invariant.sofar (stand c.play_line-played.new.world) t.0 _ _ t.1.0 t.1.1;
       origin = c.in-Ok.ensures.origin ∙ c.loop-i.invariant.origin;
-      told = λ l works. takes_told (values_at c.args.world.now.origin.base) (stand c.loop-i.world) (stand c.play_line-played.new.world) c.line.result t.0 takes l ∙ c.loop-i.invariant.told l works;
+      sound = sound_on c.loop-i.world c.play_line-played.new.world c.line.result t.0 c.in-Ok.ensures.origin t.1.0 c.loop-i.invariant.sound;
       later = omega (arith, c.loop-i.invariant.later, c.in-Ok.ensures.later);
     }
 
 pub returns-in-Err-clause-write : goal.returns-in-Err-clause-write
 returns-in-Err-clause-write g c = λ is.
-    let t = c.in-Err.ensures.write is in
-    let takes = subst (λ (o : Origin). Takes (values_at o.base) (stand c.loop-i.world) c.line.result (stand c.play_line-played.new.world) t.0) c.loop-i.invariant.origin t.1.0 in (
+    let t = c.in-Err.ensures.write is in (
       stand c.play_line-played.new.world,
       c.history-in-loop-i.ensures.few,
-      cut_at (values_at c.args.world.now.origin.base) (stand c.args.world.now) c.args.script.now.lines c.loop-i.i c.line.result c.line.ensures (stand c.loop-i.world) _ _ _ c.loop-i.invariant.sofar (stand c.play_line-played.new.world) t.0 _ takes t.1.1,
+      cut_at (stand c.args.world.now) c.args.script.now.lines c.loop-i.i c.line.result c.line.ensures (stand c.loop-i.world) _ _ _ c.loop-i.invariant.sofar (stand c.play_line-played.new.world) t.0 _ t.1.0 t.1.1,
     )
 
 pub returns-in-Err-clause-memory : goal.returns-in-Err-clause-memory
@@ -41,7 +40,7 @@ returns-in-Err-clause-memory g c = λ is.
     let t = c.in-Err.ensures.memory is in (
       stand c.loop-i.world,
       c.history.ensures.few,
-      halt_at (values_at c.args.world.now.origin.base) (stand c.args.world.now) c.args.script.now.lines c.loop-i.i c.line.result c.line.ensures (stand c.loop-i.world) _ _ _ c.loop-i.invariant.sofar _ _ t.0 t.1,
+      halt_at (stand c.args.world.now) c.args.script.now.lines c.loop-i.i c.line.result c.line.ensures (stand c.loop-i.world) _ _ _ c.loop-i.invariant.sofar _ _ t.0 t.1,
     )
 
 pub returns-in-Err-clause-full : goal.returns-in-Err-clause-full
@@ -49,5 +48,5 @@ returns-in-Err-clause-full g c = λ is.
     let t = c.in-Err.ensures.full is in (
       stand c.loop-i.world,
       c.history.ensures.few,
-      full_at (values_at c.args.world.now.origin.base) (stand c.args.world.now) c.args.script.now.lines c.loop-i.i c.line.result c.line.ensures (stand c.loop-i.world) _ _ _ c.loop-i.invariant.sofar _ _ t.0 t.1 t.2,
+      full_at (stand c.args.world.now) c.args.script.now.lines c.loop-i.i c.line.result c.line.ensures (stand c.loop-i.world) _ _ _ c.loop-i.invariant.sofar _ _ t.0 t.1 t.2,
     )
