@@ -6,7 +6,7 @@ use Rattle.cluster_model.specs.State.{State}
 use Rattle.cluster_model.specs.Served.{NoTrustedLegIsStale, Shut, Intent, Missed}
 use Rattle.cluster_model.specs.Size.{Size}
 
--- At the place `here`, after these entries: `values` has for each sector what a read of it may give.
+-- At the place `here`, after these entries. `values` has for each sector what a read may give.
 pub record Promises (values : ℕ → List Sector) (start : State) (past : List Entry) (here : State)
     : Type 0 where
   -- each leg that a node reads from, or may come to read from, has one of the values
