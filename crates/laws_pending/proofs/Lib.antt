@@ -18,3 +18,6 @@ pub mod Opened
 pub mod Reflect
 pub mod KeptRecoveries
 pub mod Tracing
+pub mod Back
+pub mod Settling
+pub mod Equal

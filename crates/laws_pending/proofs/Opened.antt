@@ -98,10 +98,13 @@ module _ (past : List Entry) (x : Entry) (s : ℕ) (vs : ℕ → List Sector) wh
   stands_by (events.Settle n) is two = settle_by n x.outcome is refl two
   stands_by e is two = stood two (not_decided past x s (ap may_decide is))
 
+pub opened_step : (base : ℕ → List Sector) (later past : List Entry) (x : Entry) (s : ℕ) → (is_open (candidates base (later ++ past) s) ≡ true → OpenSince later past s) → is_open (candidates base (x ∷ (later ++ past)) s) ≡ true → OpenSince (x ∷ later) past s
+opened_step base later past x s rest two = by (stands_by (later ++ past) x s (candidates base (later ++ past)) x.event refl two)
+  where
+    by : Stands (later ++ past) x s (candidates base (later ++ past)) → OpenSince (x ∷ later) past s
+    by (starts v start) = inl (v, start)
+    by (stood before none) = inr (rest before, none)
+
 pub opened_since : (base : ℕ → List Sector) (later past : List Entry) (s : ℕ) → is_open (candidates base past s) ≡ false → is_open (candidates base (later ++ past) s) ≡ true → OpenSince later past s
 opened_since base [] past s one two = clash (is_open (candidates base past s)) two one
-opened_since base (x ∷ later) past s one two = by (stands_by (later ++ past) x s (candidates base (later ++ past)) x.event refl two) (opened_since base later past s one)
-  where
-    by : Stands (later ++ past) x s (candidates base (later ++ past)) → (is_open (candidates base (later ++ past) s) ≡ true → OpenSince later past s) → OpenSince (x ∷ later) past s
-    by (starts v start) rest = inl (v, start)
-    by (stood before none) rest = inr (rest before, none)
+opened_since base (x ∷ later) past s one two = opened_step base later past x s (opened_since base later past s one) two

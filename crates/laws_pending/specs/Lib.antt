@@ -1,1 +1,1 @@
--- Nothing is stated yet.
+pub mod Laws
