@@ -6,6 +6,7 @@ use Rattle.cluster_model.specs.State.{State}
 use Rattle.cluster_model.specs.Contents.{SoundOpening}
 use Rattle.cluster_model.specs.Opening.{Origin}
 use Rattle.cluster_model.specs.Run.{Run}
+use Rattle.laws_pending.proofs.Equal.{runs_recover_what_was_found}
 use Rattle.laws_recovery.proofs.Promises.{runs_are_legal, runs_serve_no_stale_leg}
 use Rattle.laws_recovery.proofs.Promises.{runs_mark_what_is_missed}
 use Rattle.laws_roles.specs.Laws.{Tells}
@@ -24,5 +25,6 @@ module _ (o : Origin) (start end : State) (past : List Entry) (sound : SoundOpen
     shut = runs_are_shut o start end past sound.opens tells run;
     intent = runs_keep_the_intent o start end past sound tells run;
     missed = runs_mark_what_is_missed o start end past sound tells run;
+    recovered = runs_recover_what_was_found o start end past sound tells run;
     size = (runs_keep_the_size o start end past sound.opens tells run).size;
   }
