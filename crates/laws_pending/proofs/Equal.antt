@@ -1,5 +1,5 @@
 -- Where a recovery ends, the legs that its node reads from are equal where it found something.
-use Rattle.std.proofs.Common.{◌≡◌, ◌⊎◌, inl, inr, ℕ, ◌<◌, ◌≤◌, ◌&&◌, Bool, true, false, List, [], ◌∷◌, ◌++◌, Option, Some, None, refl, sym, ap, subst, ◌∙◌, arith}
+use Rattle.std.proofs.Common.{◌≡◌, ◌⊎◌, inl, inr, ℕ, ◌<◌, ◌≤◌, ◌&&◌, true, false, List, [], ◌∷◌, ◌++◌, Some, None, refl, sym, ap, subst, ◌∙◌, arith}
 use Rattle.std.proofs.lemmas.Bool.{cases_lt}
 use Rattle.dlm_modes.proofs.FirstLaws.{first_such_none}
 use Rattle.mdc_types.specs.Geometry.{chunk_of, chunks_of}
@@ -25,7 +25,6 @@ use Rattle.cluster_model.specs.State.{State, Core, sizes}
 use Rattle.cluster_model.specs.Stored.{data_on}
 use Rattle.cluster_model.specs.Table.{refusal}
 use Rattle.laws_sound.proofs.Guarded.{all_none, unless_none, refused_none}
-use Rattle.laws_sound.specs.Legs.{SpareBeyond}
 use Rattle.laws_roles.specs.Laws.{Tells}
 use Rattle.laws_roles.proofs.Known.{known}
 use Rattle.laws_roles.proofs.Runs.{array_is}
@@ -33,7 +32,7 @@ use Rattle.storage_ways.proofs.Guarding.{one_open, both_nots}
 use Rattle.storage_ways.specs.Since.{since_in}
 use Rattle.laws_writes.proofs.Ghosts.{is_open}
 use Rattle.laws_recovery.proofs.Promises.{runs_recover, runs_serve_no_stale_leg}
-use Rattle.laws_pending.specs.Laws.{FoundIsEqual, RunsRecoverWhatWasFound}
+use Rattle.laws_pending.specs.Laws.{RunsRecoverWhatWasFound}
 use Rattle.laws_pending.proofs.Back.{Opened}
 use Rattle.laws_pending.proofs.Points.{by_test, clash}
 use Rattle.laws_pending.proofs.Settling.{open_since}

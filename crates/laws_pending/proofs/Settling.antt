@@ -1,5 +1,5 @@
 -- What a node settled since its recovery began was settled since the slot was pending.
-use Rattle.std.proofs.Common.{◌≡◌, ◌⊎◌, inl, inr, ℕ, ◌==◌, ◌&&◌, Bool, true, false, not, if◌then◌else◌, List, [], ◌∷◌, ◌++◌, Option, Some, None, refl, sym, ap, subst, ◌∙◌, arith}
+use Rattle.std.proofs.Common.{◌≡◌, ◌⊎◌, inl, inr, ℕ, ◌==◌, ◌&&◌, Bool, true, false, not, if◌then◌else◌, List, [], ◌∷◌, ◌++◌, Option, None, refl, ap, subst, arith}
 use Rattle.std.proofs.lemmas.Bool.Decides.{nat_tests}
 use Rattle.dlm_modes.specs.Guards.{first_of}
 use Rattle.mdc_types.specs.declared.events.Event.{Event}
@@ -9,9 +9,6 @@ use Rattle.mdc_types.specs.declared.outcomes.Entry.{Entry}
 use Rattle.mdc_types.specs.declared.outcomes.Outcome.{Outcome}
 use Rattle.mdc_types.specs.declared.outcomes.Outcome.TheVariants as outcomes
 use Rattle.mdc_types.specs.declared.refusals.Refusal.{Refusal}
-use Rattle.mdc_types.specs.declared.roles.NodeState.{NodeState}
-use Rattle.mdc_types.specs.declared.roles.NodeState.TheVariants as states
-use Rattle.node_recovery.specs.Progress.{Recovering}
 use Rattle.plain_history.specs.History.{PlainWrite, live_writes, values_step, candidates}
 use Rattle.plain_history.specs.Seen.{OpenSince}
 use Rattle.cluster_model.specs.Contents.{SoundOpening}
