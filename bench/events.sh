@@ -3,6 +3,7 @@
 # the end. Twice the events should take twice the time. It builds the program where that wasn't done.
 set -eu
 cd "$(dirname "$0")/../crates/mdc"
+. ../../bench/timed.sh
 [ -x out/mdc ] || rt run -- play < ../../examples/first.mdc > /dev/null
 
 # Rounds of six events: a write of node 0 to both legs and its end, and a read of node 1.
@@ -21,11 +22,6 @@ for rounds in 5000 10000; do
     input=$(mktemp)
     script "$rounds" > "$input"
     echo "$((rounds * 6)) events"
-    # GNU time, if it is there, tells the memory too.
-    if [ -x /usr/bin/time ]; then
-        /usr/bin/time -f '%e s, %M KB' out/mdc play < "$input" | tail -n 1
-    else
-        time out/mdc play < "$input" | tail -n 1
-    fi
+    timed "$input"
     rm -f "$input"
 done

@@ -4,6 +4,7 @@
 # the events should take twice the time. It builds the program where that wasn't done.
 set -eu
 cd "$(dirname "$0")/../crates/mdc"
+. ../../bench/timed.sh
 [ -x out/mdc ] || rt run -- play < ../../examples/first.mdc > /dev/null
 
 script() {
@@ -84,11 +85,6 @@ for times in 4 8; do
     input=$(mktemp)
     script "$times" > "$input"
     echo "$(($(wc -l < "$input") - 3)) events"
-    # GNU time, if it is there, tells the memory too.
-    if [ -x /usr/bin/time ]; then
-        /usr/bin/time -f '%e s, %M KB' out/mdc play < "$input" | tail -n 1
-    else
-        time out/mdc play < "$input" | tail -n 1
-    fi
+    timed "$input"
     rm -f "$input"
 done
