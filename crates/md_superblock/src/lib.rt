@@ -50,6 +50,7 @@ pub use laws::{
     states_are_read_again, superblocks_are_spelled, what_is_written_is_read,
 };
 pub use layout::sum_of;
+pub use names::is_name;
 pub use reading::read_super;
 pub use superblock::Super;
 pub use writing::write_super;

@@ -28,7 +28,7 @@ fn is_zero(bytes: &[u8]) -> bool
 }
 
 /// Whether an array may have this name: 1 to 31 ASCII letters, digits or `_`, then zeros.
-pub(crate) fn is_name(name: &[u8]) -> bool
+pub fn is_name(name: &[u8]) -> bool
     requires { length name.now ≡ 32 }
     ensures { result ≡ is_name name.now }
 {

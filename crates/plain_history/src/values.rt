@@ -30,6 +30,8 @@ fn add(list: &mut Vec<Sector>, v: &Sector) -> Result<(), AllocError>
     ensures ok { OnOk result (list.new.items ≡ list.old.items ++ v.now ∷ []) }
     ensures err { OnErr result (list.new.items ≡ list.old.items) }
 {
+    // One at a time: most sectors never have more than one or two candidates.
+    list.reserve_exact(1)?;
     list.push(*v)?;
     Ok(())
 }
