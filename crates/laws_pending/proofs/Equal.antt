@@ -32,7 +32,6 @@ use Rattle.storage_ways.proofs.Guarding.{one_open, both_nots}
 use Rattle.storage_ways.specs.Since.{since_in}
 use Rattle.laws_writes.proofs.Ghosts.{is_open}
 use Rattle.laws_recovery.proofs.Promises.{runs_recover, runs_serve_no_stale_leg}
-use Rattle.laws_pending.specs.Laws.{RunsRecoverWhatWasFound}
 use Rattle.laws_pending.proofs.Back.{Opened}
 use Rattle.laws_pending.proofs.Points.{by_test, clash}
 use Rattle.laws_pending.proofs.Settling.{open_since}
@@ -135,6 +134,3 @@ module _ (o : Origin) (start end : State) (past : List Entry) (opening : SoundOp
           open_since o start opening tells n d (values_at o.base) s before later pended.place.state end pended.became (subst (λ p. Run start p end) split run) recovers
           (subst (λ p. since_in p n s ≡ true) split (settled_since x s c lt is below there_found))
           (subst (λ p. is_open (candidates (values_at o.base) p s) ≡ true) split two)
-
-pub runs_recover_what_was_found : RunsRecoverWhatWasFound
-runs_recover_what_was_found o start end past opening tells run n ok = found_is_equal o start end past opening tells run n ok

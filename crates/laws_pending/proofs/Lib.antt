@@ -21,3 +21,16 @@ pub mod Tracing
 pub mod Back
 pub mod Settling
 pub mod Equal
+pub mod Offers
+pub mod Owed
+pub mod Stepped
+pub mod Tied
+pub mod Whole
+pub mod FirstLeg
+pub mod Untouched
+pub mod Alike
+pub mod Heritage
+pub mod Taking
+pub mod Settlings
+pub mod Lineage
+pub mod Inherited

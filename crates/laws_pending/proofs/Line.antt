@@ -76,7 +76,7 @@ module _ (w : Part) (g : Ghost) (z : Since) (p : Pend) (a : Known w g z p) where
   pub dead_recoverer : (n d : ℕ) → w.pending n ≡ true → p.was n ≡ Some d → w.heir d ≡ Some n
   dead_recoverer n d = a.pendings.was_heir n d
 
-  module _ (n : ℕ) (r : Recovering) (x : EndsRecovery w n r) (fits : (l s : ℕ) → w.ghost.good l ≡ true → s < w.geometry.room → is_among (w.stored l s) (g.values s) ≡ true) where
+  module _ (n : ℕ) (r : Recovering) (x : EndsRecovery w n r) where
     -- where a recovery ends, what it found was settled since the slot is pending
     found_settled : (s : ℕ) → s < w.geometry.room → r.found (chunk_in w s) ≡ true → z.since r.slot s ≡ false → ⊥
     found_settled s lt found unsettled =
@@ -102,17 +102,22 @@ module _ (w : Part) (g : Ghost) (z : Since) (p : Pend) (a : Known w g z p) where
             ∙ a.pendings.moved_kept r.slot n s x.all.opened.pending lt t unsettled (heir_there w g z p a n r rec) (up_settled w g z p a n x.all.opened.up))
             (λ stays. owed_found w g z p a n r x.all (chunk_in w s) l owed stays works_there f)
 
-    -- all legs that the node reads from are equal at each sector of a chunk that was found or owed,
-    -- unless a write of it started since the slot is pending
-    pub are_equal : (s l k : ℕ) → s < w.geometry.room → (r.found (chunk_in w s) ≡ true) ⊎ (p.owed r.slot (chunk_in w s) ≡ true) → works (w.view n) l ≡ true → works (w.view n) k ≡ true
-        → (w.stored l s ≡ w.stored k s) ⊎ (p.young r.slot s ≡ true)
-    are_equal s l k lt why el ek = by_test (z.since r.slot s) settled (λ f. unsettled f why)
-      where
-        settled : z.since r.slot s ≡ true → (w.stored l s ≡ w.stored k s) ⊎ (p.young r.slot s ≡ true)
-        settled t = by_test (undecided g s)
-            (λ two. inr (a.pendings.since_young r.slot s x.all.opened.pending t two))
-            (λ one. inl (alone (g.values s) (w.stored l s) (w.stored k s) one (fits l s (good_of l el) lt) (fits k s (good_of k ek) lt)))
+    -- so it reads from one leg
+    pub owed_same : (s l k : ℕ) → s < w.geometry.room → p.owed r.slot (chunk_in w s) ≡ true → z.since r.slot s ≡ false → works (w.view n) l ≡ true → works (w.view n) k ≡ true → l ≡ k
+    owed_same s l k lt owed f el ek = a.pendings.one_promoted r.slot l k x.all.opened.pending (owed_one s l lt owed f el) (owed_one s k lt owed f ek)
 
-        unsettled : z.since r.slot s ≡ false → (r.found (chunk_in w s) ≡ true) ⊎ (p.owed r.slot (chunk_in w s) ≡ true) → (w.stored l s ≡ w.stored k s) ⊎ (p.young r.slot s ≡ true)
-        unsettled f (inl found) = absurd (found_settled s lt found f)
-        unsettled f (inr owed) = inl (ap (λ j. w.stored j s) (a.pendings.one_promoted r.slot l k x.all.opened.pending (owed_one s l lt owed f el) (owed_one s k lt owed f ek)))
+    module _ (fits : (l s : ℕ) → w.ghost.good l ≡ true → s < w.geometry.room → is_among (w.stored l s) (g.values s) ≡ true) where
+      -- all legs that the node reads from are equal at each sector of a chunk that was found or owed,
+      -- unless a write of it started since the slot is pending
+      pub are_equal : (s l k : ℕ) → s < w.geometry.room → (r.found (chunk_in w s) ≡ true) ⊎ (p.owed r.slot (chunk_in w s) ≡ true) → works (w.view n) l ≡ true → works (w.view n) k ≡ true
+          → (w.stored l s ≡ w.stored k s) ⊎ (p.young r.slot s ≡ true)
+      are_equal s l k lt why el ek = by_test (z.since r.slot s) settled (λ f. unsettled f why)
+        where
+          settled : z.since r.slot s ≡ true → (w.stored l s ≡ w.stored k s) ⊎ (p.young r.slot s ≡ true)
+          settled t = by_test (undecided g s)
+              (λ two. inr (a.pendings.since_young r.slot s x.all.opened.pending t two))
+              (λ one. inl (alone (g.values s) (w.stored l s) (w.stored k s) one (fits l s (good_of l el) lt) (fits k s (good_of k ek) lt)))
+
+          unsettled : z.since r.slot s ≡ false → (r.found (chunk_in w s) ≡ true) ⊎ (p.owed r.slot (chunk_in w s) ≡ true) → (w.stored l s ≡ w.stored k s) ⊎ (p.young r.slot s ≡ true)
+          unsettled f (inl found) = absurd (found_settled s lt found f)
+          unsettled f (inr owed) = inl (ap (λ j. w.stored j s) (owed_same s l k lt owed f el ek))

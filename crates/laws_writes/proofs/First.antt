@@ -34,7 +34,7 @@ module _ (o : Origin) (start : State) (sound : SoundOpening o start) (tells : Te
   told_none = subst (λ (core : Core). (m : ℕ) → told_by core.locks m ≡ None) sound.opens.core begun.told
 
   abbrev pub First : Part
-  First = part_of (core_at o) sup (bits_on o.sizes start.legs) (data_on o.sizes start.legs) (ghost_at o home) (values_at o.base) (λ n s. false) (λ n s. false)
+  First = part_of (core_at o) sup (bits_on o.sizes start.legs) (data_on o.sizes start.legs) (ghost_at o home) (values_at o.base) (λ n s. false) (λ n s. false) 0
 
   abbrev ghost : Ghost
   ghost = first_ghost o start.legs

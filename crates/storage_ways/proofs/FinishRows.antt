@@ -1,5 +1,5 @@
 -- The ways of a round that is whole.
-use Rattle.std.proofs.Common.{◌≡◌, ◌≢◌, ℕ, ◌<◌, Bool, true, false, if◌then◌else◌, Some, None, refl, sym, ap, subst, ◌∙◌, arith}
+use Rattle.std.proofs.Common.{◌≡◌, ◌≢◌, ℕ, suc, ◌<◌, Bool, true, false, if◌then◌else◌, Some, None, refl, sym, ap, subst, ◌∙◌, arith}
 use Rattle.std.specs.Prelude.{is_some}
 use Rattle.dlm_modes.specs.Guards.{first_of}
 use Rattle.dlm_modes.specs.Points.{with_at}
@@ -109,15 +109,19 @@ module _ (core : Core) (a : Around) (p : Place core a) where
     eight = eight_of core p.known a.super a.ghost n o.offer o.is;
   }
 
+  -- a round more is whole
+  abbrev pub counted : Around
+  counted = record a { moments = suc a.moments }
+
   -- a device is announced, or is to be removed or added again
   device_way : (n : ℕ) (o : Over n) (w : Wish) → o.offer.wish ≡ w → needs_known w ≡ true → is_metadata w ≡ false → is_range w ≡ false
-      → Way (here core a) (here (record (round_over core n) { adding = with_at core.adding n (adding_after (core.adding n) w) }) a)
+      → Way (here core a) (here (record (round_over core n) { adding = with_at core.adding n (adding_after (core.adding n) w) }) counted)
   device_way n o w e known other plain =
-      subst (λ x. Way (here core a) (here (record (round_over core n) { adding = with_at core.adding n (adding_after (core.adding n) x) }) a)) e
-      (retold (here core a) (record (round_over core n) { adding = with_at core.adding n (adding_after (core.adding n) o.offer.wish) }) a _ (told_finished core.locks n)
+      subst (λ x. Way (here core a) (here (record (round_over core n) { adding = with_at core.adding n (adding_after (core.adding n) x) }) counted)) e
+      (retold (here core a) (record (round_over core n) { adding = with_at core.adding n (adding_after (core.adding n) o.offer.wish) }) counted _ (told_finished core.locks n)
       (announces n o.offer (whole n o) (ap needs_known e ∙ known) (ap is_metadata e ∙ other) (ap is_range e ∙ plain)))
 
-  part_way : (n : ℕ) (o : Over n) → o.offer.wish ≡ wishes.Unclean → Way (here core a) (here (finish_wish (round_over core n) n o.offer wishes.Unclean) a)
+  part_way : (n : ℕ) (o : Over n) → o.offer.wish ≡ wishes.Unclean → Way (here core a) (here (finish_wish (round_over core n) n o.offer wishes.Unclean) counted)
   part_way n o e =
       let s = (sound_of core a p).turns in
       let c = core.copy n in
@@ -125,8 +129,8 @@ module _ (core : Core) (a : Around) (p : Place core a) where
       let turn = p.others.resync.unclean n unclean in
       let published = ap has_published o.granted in
       let up = by (is_up (core.state n)) refl in
-      subst (λ x. Way (here core a) (record (here (finish_wish (round_over core n) n o.offer wishes.Unclean) a) { offer = x })) (sym (with_twice core.offer n None))
-      (retold (here core a) (record (finish_wish (round_over core n) n o.offer wishes.Unclean) { offer = with_at core.offer n None }) a _ (told_finished core.locks n)
+      subst (λ x. Way (here core a) (record (here (finish_wish (round_over core n) n o.offer wishes.Unclean) counted) { offer = x })) (sym (with_twice core.offer n None))
+      (retold (here core a) (record (finish_wish (round_over core n) n o.offer wishes.Unclean) { offer = with_at core.offer n None }) counted _ (told_finished core.locks n)
       (parts n o.offer (record {
         going = record {
           node = o.node;
@@ -146,15 +150,15 @@ module _ (core : Core) (a : Around) (p : Place core a) where
       by true t = refl
       by false t = let meta : is_metadata o.offer.wish ≡ true = (whole n o).loaded t in let other : is_metadata o.offer.wish ≡ false = ap is_metadata e in cc
 
-  finish_by : (n : ℕ) (o : Over n) (w : Wish) → o.offer.wish ≡ w → Way (here core a) (here (finish_wish (round_over core n) n o.offer w) (record a { ghost = if is_metadata w then with_finish a.ghost o.offer (core.adding n).addition else a.ghost }))
-  finish_by n o (wishes.Range r) e = retold (here core a) (finish_wish (round_over core n) n o.offer (wishes.Range r)) a _ (told_finished core.locks n) (opens n r o.offer (whole n o) e)
+  finish_by : (n : ℕ) (o : Over n) (w : Wish) → o.offer.wish ≡ w → Way (here core a) (here (finish_wish (round_over core n) n o.offer w) (record counted { ghost = if is_metadata w then with_finish a.ghost o.offer (core.adding n).addition else a.ghost }))
+  finish_by n o (wishes.Range r) e = retold (here core a) (finish_wish (round_over core n) n o.offer (wishes.Range r)) counted _ (told_finished core.locks n) (opens n r o.offer (whole n o) e)
   finish_by n o (wishes.NewDisk l) e = device_way n o (wishes.NewDisk l) e refl refl refl
   finish_by n o (wishes.Remove l) e = device_way n o (wishes.Remove l) e refl refl refl
   finish_by n o (wishes.ReAdd l) e = device_way n o (wishes.ReAdd l) e refl refl refl
   finish_by n o wishes.Unclean e = part_way n o e
-  finish_by n o w e = retold (here core a) (finish_wish (round_over core n) n o.offer w) (record a { ghost = with_finish a.ghost o.offer (core.adding n).addition }) _ (told_finished core.locks n) (finishes n o.offer (whole n o) (ap is_metadata e))
+  finish_by n o w e = retold (here core a) (finish_wish (round_over core n) n o.offer w) (record counted { ghost = with_finish a.ghost o.offer (core.adding n).addition }) _ (told_finished core.locks n) (finishes n o.offer (whole n o) (ap is_metadata e))
 
-  pub finish_way : (n : ℕ) → first_of (finish_guards core n) ≡ None → Way (here core a) (here (finish core n) (record a { ghost = finished_by a.ghost (core.offer n) (core.adding n).addition }))
+  pub finish_way : (n : ℕ) → first_of (finish_guards core n) ≡ None → Way (here core a) (here (finish core n) (record counted { ghost = finished_by a.ghost (core.offer n) (core.adding n).addition }))
   finish_way n ok =
       let o = over n ok in
-      subst (λ x. Way (here core a) (here (finish_offer core n x) (record a { ghost = finished_by a.ghost x (core.adding n).addition }))) (sym o.is) (finish_by n o o.offer.wish refl)
+      subst (λ x. Way (here core a) (here (finish_offer core n x) (record counted { ghost = finished_by a.ghost x (core.adding n).addition }))) (sym o.is) (finish_by n o o.offer.wish refl)

@@ -1,5 +1,5 @@
 -- The ways by which a node goes: it leaves, dies, or gives its round up.
-use Rattle.std.proofs.Common.{◌≡◌, ℕ, ◌<◌, ◌==◌, ◌&&◌, ◌||◌, Bool, true, false, not, if◌then◌else◌, List, [], ◌∷◌, Option, Some, None, refl, sym, ap, subst, ◌∙◌, arith}
+use Rattle.std.proofs.Common.{◌≡◌, ℕ, suc, ◌<◌, ◌==◌, ◌&&◌, ◌||◌, Bool, true, false, not, if◌then◌else◌, List, [], ◌∷◌, Option, Some, None, refl, sym, ap, subst, ◌∙◌, arith}
 use Rattle.std.specs.Prelude.{is_some}
 use Rattle.std.proofs.lemmas.Bool.Decides.{nat_tests}
 use Rattle.dlm_modes.specs.First.{first_such}
@@ -119,11 +119,11 @@ module _ (core : Core) (a : Around) (p : Place core a) where
       told_died core.locks n (has_slot core n) (p.others.slots.held n) m
       ∙ ap (λ b. if b then None else told_by core.locks m) (ap (λ b. b || recovers_slot (core.recovery n) m) (own_slot n m (core.members.live n) live) ∙ ap (λ b. (m == n) || b) (same_recovers (core.recovery n) m))
 
-  pub die_way : (n : ℕ) → first_of (die_guards core n) ≡ None → Way (here core a) (here (die core n) a)
+  pub die_way : (n : ℕ) → first_of (die_guards core n) ≡ None → Way (here core a) (here (die core n) (record a { moments = suc a.moments }))
   die_way n ok =
       let l = living core n [] p.known.rounded.numbered.nodes ok in
       let live = live_at n l.live in
-      subst (λ x. Way (here core a) (record (here (die core n) a) { offer = x })) (sym (with_twice core.offer n None))
+      subst (λ x. Way (here core a) (record (here (die core n) (record a { moments = suc a.moments })) { offer = x })) (sym (with_twice core.offer n None))
       (dies n (told_by (die core n).locks) (record { node = l.node; live = live; blocks = dead_blocks n live }))
 
   give_up : (n : ℕ) (s : NodeState) → core.state n ≡ s → is_up s ≡ false → is_out s ≡ false → has_published (core.sender n) ≡ false → Way (here core a) (record (here (quit_from core n states.Joining) a) { offer = with_at core.offer n None })

@@ -23,17 +23,20 @@ use Rattle.laws_roles.proofs.OtherRows.{is_failed}
 use Rattle.laws_roles.proofs.Parts as roles
 use Rattle.laws_roles.proofs.Parts.{supers, ghost_after}
 use Rattle.storage_ways.specs.Since.{since_step}
+use Rattle.storage_ways.specs.Moments.{moments_step}
 use Rattle.storage_ways.specs.Broken.{broken_step}
 use Rattle.storage_ways.proofs.Flying.{flying}
 use Rattle.storage_ways.proofs.Parts.{Part, bits_on}
 use Rattle.storage_ways.proofs.Place.{Around, here}
 use Rattle.storage_ways.proofs.Ways.{Ways}
 
--- what the entries tell: the values of sectors, where writes were broken, and what was settled since
+-- what the entries tell: the values of sectors, where writes were broken, what was settled since, and
+-- how many of them may offer, end a round, make a slot pending or settle
 pub record Traced : Type 0 where
   pub values : ℕ → List Sector
   pub broken : ℕ → ℕ → Bool
   pub since : ℕ → ℕ → Bool
+  pub moments : ℕ
 
 -- what stands on these legs
 abbrev pub around : Core → Legs → roles.Ghost → Traced → Around
@@ -45,11 +48,12 @@ around core legs g t = record {
   values = t.values;
   broken = t.broken;
   since = t.since;
+  moments = t.moments;
 }
 
 -- what the entries tell, after one more
 abbrev pub traced : Event → Outcome → (ℕ → ℕ → Option PlainWrite) → Traced → Traced
-traced e o writes t = record { values = values_step e o writes t.values; broken = broken_step e o writes t.broken; since = since_step e o t.since }
+traced e o writes t = record { values = values_step e o writes t.values; broken = broken_step e o writes t.broken; since = since_step e o t.since; moments = moments_step e t.moments }
 
 -- and after an event
 abbrev pub next : State → roles.Ghost → Traced → Event → Outcome → Legs → Around
@@ -139,8 +143,8 @@ moved old g t e w o was new legs is same xs =
 
 -- what stands there is what is equal to it
 pub standing_so : (w : Part) (core : Core) (s t : ℕ → Option Says) (b c : ℕ → ℕ → ℕ → Bool) (d f : ℕ → ℕ → Sector) (g : roles.Ghost) (tr : Traced) → s ≡ t → b ≡ c → d ≡ f
-    → Ways w (here core (record { super = t; bit = c; stored = f; ghost = g; values = tr.values; broken = tr.broken; since = tr.since })) → Ways w (here core (record { super = s; bit = b; stored = d; ghost = g; values = tr.values; broken = tr.broken; since = tr.since }))
+    → Ways w (here core (record { super = t; bit = c; stored = f; ghost = g; values = tr.values; broken = tr.broken; since = tr.since; moments = tr.moments })) → Ways w (here core (record { super = s; bit = b; stored = d; ghost = g; values = tr.values; broken = tr.broken; since = tr.since; moments = tr.moments }))
 standing_so w core s t b c d f g tr e h i xs =
-    subst (λ x. Ways w (here core (record { super = x; bit = b; stored = d; ghost = g; values = tr.values; broken = tr.broken; since = tr.since }))) (sym e)
-    (subst (λ x. Ways w (here core (record { super = t; bit = x; stored = d; ghost = g; values = tr.values; broken = tr.broken; since = tr.since }))) (sym h)
-    (subst (λ x. Ways w (here core (record { super = t; bit = c; stored = x; ghost = g; values = tr.values; broken = tr.broken; since = tr.since }))) (sym i) xs))
+    subst (λ x. Ways w (here core (record { super = x; bit = b; stored = d; ghost = g; values = tr.values; broken = tr.broken; since = tr.since; moments = tr.moments }))) (sym e)
+    (subst (λ x. Ways w (here core (record { super = t; bit = x; stored = d; ghost = g; values = tr.values; broken = tr.broken; since = tr.since; moments = tr.moments }))) (sym h)
+    (subst (λ x. Ways w (here core (record { super = t; bit = c; stored = x; ghost = g; values = tr.values; broken = tr.broken; since = tr.since; moments = tr.moments }))) (sym i) xs))

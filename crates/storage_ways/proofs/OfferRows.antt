@@ -1,5 +1,5 @@
 -- The ways of offers.
-use Rattle.std.proofs.Common.{◌≡◌, inl, inr, ℕ, ◌==◌, ◌&&◌, ◌||◌, Bool, true, false, not, Option, Some, None, refl, ap, subst, arith}
+use Rattle.std.proofs.Common.{◌≡◌, inl, inr, ℕ, suc, ◌==◌, ◌&&◌, ◌||◌, Bool, true, false, not, Option, Some, None, refl, ap, subst, arith}
 use Rattle.std.specs.Prelude.{is_some, is_none}
 use Rattle.std.proofs.lemmas.Bool.{cases_lt}
 use Rattle.std.proofs.lemmas.Bool.Decides.{nat_tests}
@@ -157,7 +157,7 @@ module _ (core : Core) (a : Around) (p : Place core a) where
         working = λ l e. working_or wish (core.view n) l e;
       }
 
-  by_wish : (n : ℕ) (wish : Wish) → Offering (here core a) n (offer_of core n wish) → Way (here core a) (here (offered core n wish) (record a { ghost = with_wish a.ghost wish }))
+  by_wish : (n : ℕ) (wish : Wish) → Offering (here core a) n (offer_of core n wish) → Way (here core a) (here (offered core n wish) (record a { ghost = with_wish a.ghost wish; moments = suc a.moments }))
   by_wish n wishes.Meta o = offers n (offer_of core n wishes.Meta) o
   by_wish n (wishes.Spare l) o = offers n (offer_of core n (wishes.Spare l)) o
   by_wish n (wishes.Rebuild l) o = offers n (offer_of core n (wishes.Rebuild l)) o
@@ -165,5 +165,5 @@ module _ (core : Core) (a : Around) (p : Place core a) where
   by_wish n (wishes.Grow z) o = offers n (offer_of core n (wishes.Grow z)) o
   by_wish n w o = offers n (offer_of core n w) o
 
-  pub offer_way : (n : ℕ) (wish : Wish) → first_of (offer_guards core n wish) ≡ None → Way (here core a) (here (offered core n wish) (record a { ghost = with_wish a.ghost wish }))
+  pub offer_way : (n : ℕ) (wish : Wish) → first_of (offer_guards core n wish) ≡ None → Way (here core a) (here (offered core n wish) (record a { ghost = with_wish a.ghost wish; moments = suc a.moments }))
   offer_way n wish ok = by_wish n wish (offering n wish (guards core p.known n wish ok))

@@ -65,6 +65,8 @@ pub record Part : Type 0 where
   pub broken : ℕ → ℕ → Bool
   -- by node and sector: the sector was settled since the node began to recover last
   pub since : ℕ → ℕ → Bool
+  -- how often a node offered or died, a round was whole, or a sector was settled
+  pub moments : ℕ
 
 abbrev pub told_by : (ℕ → Lock) → ℕ → Option Range
 told_by locks m =
@@ -74,8 +76,8 @@ told_by locks m =
 abbrev pub bits_on : Sizes → Legs → ℕ → ℕ → ℕ → Bool
 bits_on g legs k c l = nat_lt k (nodes_of g) && bit_on g legs k c l
 
-abbrev pub part_of : Core → (ℕ → Option Says) → (ℕ → ℕ → ℕ → Bool) → (ℕ → ℕ → Sector) → roles.Ghost → (ℕ → List Sector) → (ℕ → ℕ → Bool) → (ℕ → ℕ → Bool) → Part
-part_of core super bit stored ghost values broken since = record {
+abbrev pub part_of : Core → (ℕ → Option Says) → (ℕ → ℕ → ℕ → Bool) → (ℕ → ℕ → Sector) → roles.Ghost → (ℕ → List Sector) → (ℕ → ℕ → Bool) → (ℕ → ℕ → Bool) → ℕ → Part
+part_of core super bit stored ghost values broken since moments = record {
   geometry = core.array.sizes;
   state = core.state;
   view = core.view;
@@ -103,6 +105,7 @@ part_of core super bit stored ghost values broken since = record {
   values = values;
   broken = broken;
   since = since;
+  moments = moments;
 }
 
 -- of this part, what says who may be read

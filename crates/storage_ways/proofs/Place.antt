@@ -40,9 +40,10 @@ pub record Around : Type 0 where
   pub values : ℕ → List Sector
   pub broken : ℕ → ℕ → Bool
   pub since : ℕ → ℕ → Bool
+  pub moments : ℕ
 
 abbrev pub here : Core → Around → Part
-here core a = part_of core a.super a.bit a.stored a.ghost a.values a.broken a.since
+here core a = part_of core a.super a.bit a.stored a.ghost a.values a.broken a.since a.moments
 
 -- what roles keep of the same
 abbrev pub roles_here : Core → Around → roles.Part

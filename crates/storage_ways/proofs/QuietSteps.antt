@@ -1,5 +1,5 @@
 -- The way of each event that transfers nothing.
-use Rattle.std.proofs.Common.{◌≡◌, ℕ, Bool, true, false, Option, Some, None, refl, sym, ap, subst, arith}
+use Rattle.std.proofs.Common.{◌≡◌, ℕ, suc, Bool, true, false, Option, Some, None, refl, sym, ap, subst, arith}
 use Rattle.mdc_types.specs.declared.events.Event.{Event}
 use Rattle.mdc_types.specs.declared.events.Event.TheVariants as events
 use Rattle.mdc_types.specs.declared.outcomes.Outcome.{Outcome}
@@ -22,7 +22,7 @@ use Rattle.storage_ways.specs.Broken.{broken_by, decided_by, broken_step}
 use Rattle.storage_ways.proofs.Flying.{flying, plain_of}
 use Rattle.storage_ways.proofs.Parts.{decided_values, decided_there, settled_there}
 use Rattle.storage_ways.proofs.Place.{Around, here, Place, sound_of}
-use Rattle.storage_ways.proofs.Moving.{Traced, around, next, quiet_of, quiet_well, done_when, moved}
+use Rattle.storage_ways.proofs.Moving.{Traced, around, next, quiet_of, quiet_well, done_when}
 use Rattle.storage_ways.proofs.BitmapRows.{clear_way}
 use Rattle.storage_ways.proofs.ComingRows.{join_way, up_way}
 use Rattle.storage_ways.proofs.CopyRows.{resync_way, end_pass_way, own_way, full_way, again_way}
@@ -75,8 +75,8 @@ module _ (old : State) (g : roles.Ghost) (vs : Traced) (p : Place old.core (arou
   ended_values : (n k : ℕ) (x : LiveWrite) → write_in k (old.core.writes n) ≡ Some x → Way (here old.core A) (here (end_write old.core n k) (record A { values = decided_values vs.values x.sector x.value; broken = decided_there vs.broken x.sector })) → Done (events.EndWrite n k)
   ended_values n k x found w = subst (λ (y : Option PlainWrite). Way (here old.core A) (here (end_write old.core n k) (record A { values = λ s. with_end y s (vs.values s); broken = λ m s. decided_by y vs.broken m s }))) (sym (ap plain_of found)) w
 
-  settled_values : (n : ℕ) (b : Buffer) → buffer_of old.core n ≡ Some b → Way (here old.core A) (here (settle old.core n) (record A { values = decided_values vs.values b.sector b.value; broken = decided_there vs.broken b.sector; since = settled_there vs.since b.sector })) → Done (events.Settle n)
-  settled_values n b is w = subst (λ y. Way (here old.core A) (here (settle old.core n) (record A { values = values_step (events.Settle n) (settled_with y) (flying old.core.writes) vs.values; broken = broken_step (events.Settle n) (settled_with y) (flying old.core.writes) vs.broken; since = since_step (events.Settle n) (settled_with y) vs.since }))) (sym is) w
+  settled_values : (n : ℕ) (b : Buffer) → buffer_of old.core n ≡ Some b → Way (here old.core A) (here (settle old.core n) (record A { values = decided_values vs.values b.sector b.value; broken = decided_there vs.broken b.sector; since = settled_there vs.since b.sector; moments = suc vs.moments })) → Done (events.Settle n)
+  settled_values n b is w = subst (λ y. Way (here old.core A) (here (settle old.core n) (record A { values = values_step (events.Settle n) (settled_with y) (flying old.core.writes) vs.values; broken = broken_step (events.Settle n) (settled_with y) (flying old.core.writes) vs.broken; since = since_step (events.Settle n) (settled_with y) vs.since; moments = suc vs.moments }))) (sym is) w
 
   broken_values : (n k : ℕ) (b : Broken old.core n k) → Done (events.BreakWrite n k)
   broken_values n k b = subst (λ (y : Option PlainWrite). Way (here old.core A) (here (break_write old.core n k) (record A { broken = λ m s. broken_by n y vs.broken m s }))) (sym (ap plain_of b.found)) (break_way old.core A n k b)
@@ -124,9 +124,14 @@ module _ (old : State) (g : roles.Ghost) (vs : Traced) (p : Place old.core (arou
   done_way (events.Recovered n) q ok = recovered_way old.core A p n ok
   done_way (events.LockDevice n) q ok = retold (here old.core A) (done old.core (events.LockDevice n) outcomes.Done) A _ (told_high old.core.locks _ _ (omega arith)) still
 
-  pub quiet_ways : (e : Event) (o : Outcome) (new : Legs) → has_transfer e ≡ false → refusal old.core e ≡ None → Moves old e o new → Ways (here old.core A) (here (after old.core e o) (next old g vs e o new))
-  quiet_ways e o new q ok m =
+  -- one way alone
+  pub quiet_way : (e : Event) (o : Outcome) (new : Legs) → has_transfer e ≡ false → refusal old.core e ≡ None → Moves old e o new → Way (here old.core A) (here (after old.core e o) (next old g vs e o new))
+  quiet_way e o new q ok m =
       let is = quiet_of old e o new (no_transfer old.core e q) m in
-      moved old g vs e (here old.core A) o (outcome_of old.core e) new old.legs is.is is.legs
-      (subst (λ c. Ways (here old.core A) (here c (next old g vs e (outcome_of old.core e) old.legs))) (sym (done_when old.core e (outcome_of old.core e) (quiet_well old.core e)))
-      (one (sound_of old.core A p) (done_way e q ok)))
+      subst (λ x. Way (here old.core A) (here (after old.core e x) (next old g vs e x new))) (sym is.is)
+      (subst (λ x. Way (here old.core A) (here (after old.core e (outcome_of old.core e)) (next old g vs e (outcome_of old.core e) x))) (sym is.legs)
+      (subst (λ c. Way (here old.core A) (here c (next old g vs e (outcome_of old.core e) old.legs))) (sym (done_when old.core e (outcome_of old.core e) (quiet_well old.core e)))
+      (done_way e q ok)))
+
+  pub quiet_ways : (e : Event) (o : Outcome) (new : Legs) → has_transfer e ≡ false → refusal old.core e ≡ None → Moves old e o new → Ways (here old.core A) (here (after old.core e o) (next old g vs e o new))
+  quiet_ways e o new q ok m = one (sound_of old.core A p) (quiet_way e o new q ok m)

@@ -23,7 +23,7 @@ use Rattle.storage_ways.proofs.Parts.{with_page, with_page_if, begun_there}
 use Rattle.storage_ways.proofs.Place.{Around, here, Place, sound_of}
 use Rattle.storage_ways.proofs.Blocks.{retold, told_kept}
 use Rattle.storage_ways.proofs.Guarding.{acked_by, target_leg, working_at, below_legs, lock_alone, none_open, one_open, both_nots}
-use Rattle.storage_ways.proofs.Ways.{Way, Open, SlotClears, recovers_slot, slot_reads, slot_clears, misses_slot, ends_recovery}
+use Rattle.storage_ways.proofs.Ways.{Way, Open, SlotClears, EndsRecovery, recovers_slot, slot_reads, slot_clears, misses_slot, ends_recovery}
 
 heir_recovered : (m : Members) (x : Option ℕ) → pending_heir m x ≡ None → (h : ℕ) → x ≡ Some h → m.pending h ≡ false
 heir_recovered m None e h is = cc
@@ -165,20 +165,34 @@ module _ (core : Core) (a : Around) (p : Place core a) where
       let below = fits c f in
       both_nots (r.found c) ((core.bitmap n).need c) (first_such_none (λ d. r.found d && (core.bitmap n).need d) 0 (chunks_of (sizes core)) none c (omega arith) (omega (arith, below))) f
 
-  pub recovered_way : (n : ℕ) → first_of (recovered_guards core n) ≡ None → Way (here core a) (here (recovered core n) a)
-  recovered_way n ok =
+  pub record Ended (n : ℕ) : Type 0 where
+    pub recovering : Recovering
+    pub is : core.recovery n ≡ Some recovering
+    pub ends : EndsRecovery (here core a) n recovering
+
+  pub ended : (n : ℕ) → first_of (recovered_guards core n) ≡ None → Ended n
+  ended n ok =
       let g = (all_none (recovered_guards core n) ok).1.1.1 in
       let o = one_open (core.recovery n) (unless_none _ _ g.1.0) in
       let r = o.recovering in
       let fits = p.known.range.room.recoveries n r o.is in
-      subst (λ x. Way (here core a) (here (slot_recovered core n x) a)) (sym o.is)
-      (retold (here core a) (slot_recovered core n (Some r)) a _ (told_kept core.locks r.slot _ refl)
-      (ends_recovery n r (record {
-        all = record {
-          opened = opened n r (unless_none (is_up (core.state n)) _ g.0) o.is;
-          acked = acked_by core a p n g.1.1.0;
-          read = read_all n r (subst (λ x. leg_unread core n x ≡ None) o.is (refused_none NotRead (leg_unread core n (core.recovery n)) g.1.1.1.0));
+      record {
+        recovering = r;
+        is = o.is;
+        ends = record {
+          all = record {
+            opened = opened n r (unless_none (is_up (core.state n)) _ g.0) o.is;
+            acked = acked_by core a p n g.1.1.0;
+            read = read_all n r (subst (λ x. leg_unread core n x ≡ None) o.is (refused_none NotRead (leg_unread core n (core.recovery n)) g.1.1.1.0));
+          };
+          cleared = cleared_all n r (subst (λ x. leg_uncleared core n x ≡ None) o.is (refused_none NotWritten (leg_uncleared core n (core.recovery n)) g.1.1.1.1.0));
+          met = none_needed n r fits.found (subst (λ x. chunk_needed core n x ≡ None) o.is (refused_none Needed (chunk_needed core n (core.recovery n)) g.1.1.1.1.1.0));
         };
-        cleared = cleared_all n r (subst (λ x. leg_uncleared core n x ≡ None) o.is (refused_none NotWritten (leg_uncleared core n (core.recovery n)) g.1.1.1.1.0));
-        met = none_needed n r fits.found (subst (λ x. chunk_needed core n x ≡ None) o.is (refused_none Needed (chunk_needed core n (core.recovery n)) g.1.1.1.1.1.0));
-      })))
+      }
+
+  pub recovered_way : (n : ℕ) → first_of (recovered_guards core n) ≡ None → Way (here core a) (here (recovered core n) a)
+  recovered_way n ok =
+      let o = ended n ok in
+      subst (λ x. Way (here core a) (here (slot_recovered core n x) a)) (sym o.is)
+      (retold (here core a) (slot_recovered core n (Some o.recovering)) a _ (told_kept core.locks o.recovering.slot _ refl)
+      (ends_recovery n o.recovering o.ends))

@@ -24,15 +24,17 @@ use Rattle.laws_roles.proofs.Runs as role_runs
 use Rattle.laws_roles.proofs.Runs.{array_is, holds}
 use Rattle.laws_roles.proofs.Standing.{Bytes}
 use Rattle.storage_ways.specs.Since.{since_in}
+use Rattle.storage_ways.specs.Moments.{moments_in}
 use Rattle.storage_ways.specs.Broken.{broken_in}
 use Rattle.storage_ways.proofs.Flying.{flying, live_are}
 use Rattle.storage_ways.proofs.KeptSteps.{Kept, kept_ways}
-use Rattle.storage_ways.proofs.Moving.{Traced, traced, around}
+use Rattle.storage_ways.proofs.Moving.{Traced, traced, around, next}
 use Rattle.storage_ways.proofs.Parts.{Part, bits_on}
 use Rattle.storage_ways.proofs.Place.{Around, here, Place, sound_of}
 use Rattle.storage_ways.proofs.Sound.{Sound}
 use Rattle.storage_ways.proofs.Steps.{move_ways}
-use Rattle.storage_ways.proofs.Ways.{Ways}
+use Rattle.storage_ways.proofs.QuietSteps.{has_transfer, quiet_way}
+use Rattle.storage_ways.proofs.Ways.{Way, Ways}
 
 -- legs tell as at the start
 
@@ -88,6 +90,7 @@ around_on array legs g t = record {
   values = t.values;
   broken = t.broken;
   since = t.since;
+  moments = t.moments;
 }
 
 module _ (o : Origin) (start : State) (opens : Opens o start) (tells : Tells o start) where
@@ -96,7 +99,7 @@ module _ (o : Origin) (start : State) (opens : Opens o start) (tells : Tells o s
 
   -- what the entries tell
   abbrev pub traced_in : List Entry → Traced
-  traced_in past = record { values = candidates (values_at o.base) past; broken = broken_in past; since = since_in past }
+  traced_in past = record { values = candidates (values_at o.base) past; broken = broken_in past; since = since_in past; moments = moments_in past }
 
   abbrev pub around_at : List Entry → State → Around
   around_at past end = around_on (array_of o) end.legs (ghost_in o home past) (traced_in past)
@@ -121,22 +124,31 @@ module _ (o : Origin) (start : State) (opens : Opens o start) (tells : Tells o s
         bit_slots = λ n c l e. subst (λ (a : Array). n < nodes_of a.sizes) (sym array) (stands_in o.sizes end.legs n c l e).1;
       }
 
-  ways_from : (past : List Entry) (mid end : State) (x : Entry) → Run start past mid → Step mid x.event x.outcome end → Place mid.core (around_at past mid) → Ways (At past mid) (At (x ∷ past) end)
-  ways_from past mid end x run s p =
+  place_there : (past : List Entry) (mid : State) → Run start past mid → Place mid.core (around_at past mid) → Place mid.core (around mid.core mid.legs (ghost_in o home past) (traced_in past))
+  place_there past mid run p = subst (λ (a : Array). Place mid.core (around_on a mid.legs (ghost_in o home past) (traced_in past))) (sym (array_is o start mid past opens run)) p
+
+  -- what leads from the part at the step's start to that at its end, does so along the run
+  carried : (P : Part → Part → Type 0) (past : List Entry) (mid end : State) (x : Entry) → Run start past mid → Step mid x.event x.outcome end
+      → P (here mid.core (around mid.core mid.legs (ghost_in o home past) (traced_in past))) (here (after mid.core x.event x.outcome) (next mid (ghost_in o home past) (traced_in past) x.event x.outcome end.legs))
+      → P (At past mid) (At (x ∷ past) end)
+  carried P past mid end x run s w =
       let array = array_is o start mid past opens run in
       let g = ghost_in o home past in
       let vs = traced_in past in
+      let leads = (run_is o start opens.core past mid run).leads in
+      let live = live_are o start mid past opens run in
+      subst (λ c. P (At past mid) (here end.core (around_on (array_of o) end.legs (ghost_after c x.event g) (traced_in (x ∷ past))))) leads
+      (subst (λ f. P (At past mid) (here end.core (around_on (array_of o) end.legs (ghost_after mid.core x.event g) (traced x.event x.outcome f vs)))) (sym live)
+      (subst (λ c. P (At past mid) (here c (around_on (array_of o) end.legs (ghost_after mid.core x.event g) (traced x.event x.outcome (flying mid.core.writes) vs)))) (sym s.core)
+      (subst (λ (a : Array). P (here mid.core (around_on a mid.legs g vs)) (here (after mid.core x.event x.outcome) (around_on a end.legs (ghost_after mid.core x.event g) (traced x.event x.outcome (flying mid.core.writes) vs)))) array w)))
+
+  ways_from : (past : List Entry) (mid end : State) (x : Entry) → Run start past mid → Step mid x.event x.outcome end → Place mid.core (around_at past mid) → Ways (At past mid) (At (x ∷ past) end)
+  ways_from past mid end x run s p =
+      let array = array_is o start mid past opens run in
       let bytes : Bytes mid.core.array = subst Bytes (sym array) (record { name = tells.name; uuid = tells.uuid }) in
       let told : (j : ℕ) → j < (sizes mid.core).legs → mid.legs.told j ≡ true
       = λ j lt. legs_tell start mid past run j ∙ tells.legs j (subst (λ (a : Array). j < a.sizes.legs) array lt) in
-      let there : Place mid.core (around mid.core mid.legs g vs) = subst (λ (a : Array). Place mid.core (around_on a mid.legs g vs)) (sym array) p in
-      let w = move_ways mid g vs there bytes told x.event x.outcome end.legs s.accepted s.moves in
-      let leads = (run_is o start opens.core past mid run).leads in
-      let live = live_are o start mid past opens run in
-      subst (λ c. Ways (At past mid) (here end.core (around_on (array_of o) end.legs (ghost_after c x.event g) (traced_in (x ∷ past))))) leads
-      (subst (λ f. Ways (At past mid) (here end.core (around_on (array_of o) end.legs (ghost_after mid.core x.event g) (traced x.event x.outcome f vs)))) (sym live)
-      (subst (λ c. Ways (At past mid) (here c (around_on (array_of o) end.legs (ghost_after mid.core x.event g) (traced x.event x.outcome (flying mid.core.writes) vs)))) (sym s.core)
-      (subst (λ (a : Array). Ways (here mid.core (around_on a mid.legs g vs)) (here (after mid.core x.event x.outcome) (around_on a end.legs (ghost_after mid.core x.event g) (traced x.event x.outcome (flying mid.core.writes) vs)))) array w)))
+      carried Ways past mid end x run s (move_ways mid (ghost_in o home past) (traced_in past) (place_there past mid run p) bytes told x.event x.outcome end.legs s.accepted s.moves)
 
   first_kept : Kept (At [] start)
   first_kept =
@@ -162,3 +174,8 @@ module _ (o : Origin) (start : State) (opens : Opens o start) (tells : Tells o s
   -- each step is made of ways, each from a sound part
   pub run_ways : (past : List Entry) (mid end : State) (x : Entry) → Run start past mid → Step mid x.event x.outcome end → Ways (At past mid) (At (x ∷ past) end)
   run_ways past mid end x run s = ways_from past mid end x run s (place past mid run)
+
+  -- of an event that transfers nothing, one way alone
+  pub run_way : (past : List Entry) (mid end : State) (x : Entry) → has_transfer x.event ≡ false → Run start past mid → Step mid x.event x.outcome end → Way (At past mid) (At (x ∷ past) end)
+  run_way past mid end x q run s =
+      carried Way past mid end x run s (quiet_way mid (ghost_in o home past) (traced_in past) (place_there past mid run (place past mid run)) x.event x.outcome end.legs q s.accepted s.moves)

@@ -1,5 +1,5 @@
 -- The ways of the sectors that a pass copies.
-use Rattle.std.proofs.Common.{◌≡◌, ℕ, Bool, true, Option, Some, None, sym, ap, subst, ◌∙◌, arith, nat_lt}
+use Rattle.std.proofs.Common.{◌≡◌, ℕ, suc, Bool, true, Option, Some, None, sym, ap, subst, ◌∙◌, arith, nat_lt}
 use Rattle.dlm_modes.proofs.FirstLaws.{first_such_some}
 use Rattle.dlm_modes.specs.Guards.{first_of}
 use Rattle.mdc_types.specs.Bits.{has_bit}
@@ -135,7 +135,7 @@ module _ (core : Core) (a : Around) (p : Place core a) where
       let done : missing_target (is_target (core.view n)) b.buffer ≡ None = subst (λ x. uncopied_target core n x ≡ None) b.of (refused_none NotWritten (uncopied_target core n (buffer_of core n)) g.1.1.1.0) in
       record { it = b; settles = record { buffers = b.buffers; done = all_targets core a p n (has_bit b.buffer.done) done } }
 
-  pub settle_way : (n : ℕ) (s : Settled n) → Way (here core a) (here (settle core n) (record a { values = decided_values a.values s.it.buffer.sector s.it.buffer.value; broken = decided_there a.broken s.it.buffer.sector; since = settled_there a.since s.it.buffer.sector }))
+  pub settle_way : (n : ℕ) (s : Settled n) → Way (here core a) (here (settle core n) (record a { values = decided_values a.values s.it.buffer.sector s.it.buffer.value; broken = decided_there a.broken s.it.buffer.sector; since = settled_there a.since s.it.buffer.sector; moments = suc a.moments }))
   settle_way n s =
-      subst (λ x. Way (here core a) (here (settle_buffer core n x) (record a { values = decided_values a.values s.it.buffer.sector s.it.buffer.value; broken = decided_there a.broken s.it.buffer.sector; since = settled_there a.since s.it.buffer.sector }))) (sym s.it.of)
+      subst (λ x. Way (here core a) (here (settle_buffer core n x) (record a { values = decided_values a.values s.it.buffer.sector s.it.buffer.value; broken = decided_there a.broken s.it.buffer.sector; since = settled_there a.since s.it.buffer.sector; moments = suc a.moments }))) (sym s.it.of)
       (settles n s.it.passing s.it.buffer s.settles)

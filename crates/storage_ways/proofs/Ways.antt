@@ -1,6 +1,6 @@
 -- The ways in which an accepted event changes the part, each with what its guards, the rounds and
 -- the legs tell.
-use Rattle.std.specs.Prelude.{◌≡◌, ◌≢◌, ◌⊎◌, ℕ, ◌+◌, ◌/◌, ◌%◌, ◌<◌, ◌≤◌, ◌==◌, Bool, true, false, ◌&&◌, ◌||◌, if◌then◌else◌, Option, Some, None, option_map, nat_lt, List, []}
+use Rattle.std.specs.Prelude.{◌≡◌, ◌≢◌, ◌⊎◌, ℕ, suc, ◌+◌, ◌/◌, ◌%◌, ◌<◌, ◌≤◌, ◌==◌, Bool, true, false, ◌&&◌, ◌||◌, if◌then◌else◌, Option, Some, None, option_map, nat_lt, List, []}
 use Rattle.dlm_modes.specs.Points.{with_at}
 use Rattle.mdc_types.specs.Bits.{has_bit}
 use Rattle.mdc_types.specs.Geometry.{chunks_of, page_of, pages_of}
@@ -414,6 +414,7 @@ pub data Way (w : Part) : Part → Type 0 where
         offer = with_at w.offer n (Some o);
         drawn = if is_metadata o.wish then w.drawn + 1 else w.drawn;
         ghost = with_wish w.ghost o.wish;
+        moments = suc w.moments;
       })
   publishes : (n : ℕ) (o : Offer) → Publishing w n o
       → Way w (record w { sender = with_at w.sender n senders.Published })
@@ -430,12 +431,14 @@ pub data Way (w : Part) : Part → Type 0 where
         sender = with_at w.sender n senders.Idle;
         offer = with_at w.offer n None;
         copy = with_at w.copy n (record (w.copy n) { window = entry_of r });
+        moments = suc w.moments;
       })
   announces : (n : ℕ) (o : Offer) → Whole w n o → needs_known o.wish ≡ true → is_metadata o.wish ≡ false → is_range o.wish ≡ false
       → Way w (record w {
         sender = with_at w.sender n senders.Idle;
         offer = with_at w.offer n None;
         adding = with_at w.adding n (adding_after (w.adding n) o.wish);
+        moments = suc w.moments;
       })
   finishes : (n : ℕ) (o : Offer) → Whole w n o → is_metadata o.wish ≡ true
       → Way w (record w {
@@ -448,6 +451,7 @@ pub data Way (w : Part) : Part → Type 0 where
         copy = copy_with w n (finished (w.view n) o.role o.size);
         bitmap = marks_with w n (finished (w.view n) o.role o.size);
         ghost = with_finish w.ghost o (w.adding n).addition;
+        moments = suc w.moments;
       })
   readies : (n : ℕ) → has_processed (w.receiver n).phase ≡ true
       → Way w (record w { receiver = receiver_now w n receivers.Ready })
@@ -554,6 +558,7 @@ pub data Way (w : Part) : Part → Type 0 where
         adding = with_at w.adding n not_adding;
         live = with_at w.live n false;
         pending = with_at w.pending n true;
+        moments = suc w.moments;
       })
   dies : (n : ℕ) (told : ℕ → Option Range) → Dying w n told
       → Way w (record w {
@@ -573,6 +578,7 @@ pub data Way (w : Part) : Part → Type 0 where
         adding = with_at w.adding n not_adding;
         live = with_at w.live n false;
         pending = with_at w.pending n true;
+        moments = suc w.moments;
       })
   -- Requests.
 
@@ -653,6 +659,7 @@ pub data Way (w : Part) : Part → Type 0 where
         values = decided_values w.values b.sector b.value;
         broken = decided_there w.broken b.sector;
         since = settled_there w.since b.sector;
+        moments = suc w.moments;
       })
   ends_pass : (n : ℕ) → EndsPass w n → Way w (record w { copy = with_at w.copy n no_copy })
   -- Recovery.

@@ -73,7 +73,7 @@ module _ (old : State) (g : roles.Ghost) (vs : Traced) (p : Place old.core (arou
 
   -- a page that was put there
   page_there : (n q l : ℕ) (set : ℕ → Bool) (w : Part) (core : Core) (gh : roles.Ghost) (values : Traced) → n < nodes_of (sizes old.core) → q < pages_of (sizes old.core) → old.legs.told l ≡ true → ((c : ℕ) → set c ≡ true → c < chunks_of (sizes old.core))
-      → Ways w (here core (record { super = A.super; bit = with_page A.bit n q l set; stored = A.stored; ghost = gh; values = values.values; broken = values.broken; since = values.since }))
+      → Ways w (here core (record { super = A.super; bit = with_page A.bit n q l set; stored = A.stored; ghost = gh; values = values.values; broken = values.broken; since = values.since; moments = values.moments }))
       → Ways w (here core (around old.core (put old.legs l (page_sector (sizes old.core) n q) (page_sector_of old.core q set)) gh values))
   page_there n q l set w core gh values lt page tell fits xs =
       let at = page_sector (sizes old.core) n q in
@@ -86,7 +86,7 @@ module _ (old : State) (g : roles.Ghost) (vs : Traced) (p : Place old.core (arou
 
   -- a data sector that was put there
   data_there : (l s : ℕ) (v : Sector) (w : Part) (core : Core) (gh : roles.Ghost) (values : Traced) → old.legs.told l ≡ true
-      → Ways w (here core (record { super = A.super; bit = A.bit; stored = with_data A.stored l s v; ghost = gh; values = values.values; broken = values.broken; since = values.since }))
+      → Ways w (here core (record { super = A.super; bit = A.bit; stored = with_data A.stored l s v; ghost = gh; values = values.values; broken = values.broken; since = values.since; moments = values.moments }))
       → Ways w (here core (around old.core (put old.legs l (place_of old.core s) v) gh values))
   data_there l s v w core gh values tell xs =
       let at = place_of old.core s in
@@ -130,7 +130,7 @@ module _ (old : State) (g : roles.Ghost) (vs : Traced) (p : Place old.core (arou
 
   -- what the entries tell where the write is tried
   abbrev tried_out : ℕ → Option PlainWrite → Outcome → Traced
-  tried_out n y o = record { values = λ s. with_start y s (vs.values s); broken = λ m s. tried_by n y o vs.broken m s; since = vs.since }
+  tried_out n y o = record { values = λ s. with_start y s (vs.values s); broken = λ m s. tried_by n y o vs.broken m s; since = vs.since; moments = vs.moments }
 
   abbrev tried_at : ℕ → LiveWrite → Outcome → Traced
   tried_at n x o = tried_out n (plain_of (Some x)) o
@@ -140,7 +140,7 @@ module _ (old : State) (g : roles.Ghost) (vs : Traced) (p : Place old.core (arou
 
   out_failed_ways : (n k l : ℕ) (lost : Bool) (t : Tries old.core A p n k l) → transfer_of old.core (events.Out n k l) ≡ Some (out_to n l t.write)
       → Ways (here old.core A) (here (after old.core (events.Out n k l) (lost_or_io old.core (out_to n l t.write)))
-      (record { super = A.super; bit = A.bit; stored = with_data_if lost A.stored l t.write.sector t.write.value; ghost = g; values = (tried_at n t.write (lost_or_io old.core (out_to n l t.write))).values; broken = (tried_at n t.write (lost_or_io old.core (out_to n l t.write))).broken; since = vs.since }))
+      (record { super = A.super; bit = A.bit; stored = with_data_if lost A.stored l t.write.sector t.write.value; ghost = g; values = (tried_at n t.write (lost_or_io old.core (out_to n l t.write))).values; broken = (tried_at n t.write (lost_or_io old.core (out_to n l t.write))).broken; since = vs.since; moments = vs.moments }))
   out_failed_ways n k l lost t at =
       let s = sound_of old.core A p in
       let a : Around = record A { stored = with_data_if lost A.stored l t.write.sector t.write.value; values = tried_values vs.values t.write } in
