@@ -1,5 +1,6 @@
 -- A leg's slots, one after another, and its faults.
-use Rattle.std.proofs.Common.{◌≡◌, ℕ, ◌+◌, ◌-◌, ◌<◌, Bool, false, List, [], ◌∷◌, ◌++◌, length, get_or, replicate, Option, Some, None, Ok, Err, refl, ap, sym, ◌∙◌, arith, inl, inr, subst}
+use Rattle.std.specs.Prelude.{Bool, true, Result, if◌then◌else◌, unwrap_or, nat_lt, ◌||◌, not}
+use Rattle.std.proofs.Common.{◌≡◌, ℕ, ◌==◌, ◌+◌, ◌-◌, ◌<◌, false, List, [], ◌∷◌, ◌++◌, length, get_or, replicate, Option, Some, None, Ok, Err, refl, ap, sym, ◌∙◌, arith, inl, inr, subst}
 use Rattle.std.specs.Option.{option_map}
 use Rattle.std.proofs.lemmas.Bool.{cases_lt}
 use Rattle.std.proofs.lemmas.List.{get_or-replicate, get_or_past, length-replicate, get_or_append_left, get_or_push, length_push}
@@ -11,14 +12,17 @@ use Rattle.std.proofs.lemmas.Option.{get_or_from_slice_get}
 use Rattle.leg_store.specs.Leg.{Gives}
 use Rattle.mdc_types.specs.Sectors.{zero_sector}
 use Rattle.mdc_types.specs.declared.geometry.GeomError.{GeomError}
+use Rattle.mdc_types.specs.declared.geometry.GeomError.TheVariants.{Legs, Sectors, Room, Chunk, Bits}
 use Rattle.mdc_types.specs.declared.chunks.ChunkSet.{ChunkSet}
 use Rattle.md_superblock.specs.Faults.{fault_of}
+use Rattle.md_superblock.specs.Layout.{number_at}
+use Rattle.md_superblock.specs.Superblock.{IsSuper}
 use Rattle.md_superblock.specs.Superblock.{super_of}
 use Rattle.md_superblock.specs.declared.superblock.Super.{Super}
-use Rattle.mdc_types.specs.Geometry.{Sizes, nodes_of}
+use Rattle.mdc_types.specs.Geometry.{Sizes, nodes_of, chunks_of, slot_pages, checked, most_chunks, chunk_size_test}
 use Rattle.mdc_types.specs.declared.numbers.Sector.{Sector}
-use Rattle.image_faults.specs.Slots.{slot_is_wrong, slot_bit}
-use Rattle.image_faults.specs.Legs.{ReadsSlot, ReadsSlots, ReadsLeg, first_wrong_slot, slots_fault, leg_fault, super_bytes, first_page, own_chunk}
+use Rattle.image_faults.specs.Slots.{slot_is_wrong, slot_bit, ArePages}
+use Rattle.image_faults.specs.Legs.{FitsSuper, HaveSets, ReadsSlot, ReadsSlots, ReadsLeg, first_wrong_slot, slots_fault, leg_fault, super_bytes, first_page, own_chunk}
 use Rattle.image_faults.specs.Sizes.{length_fault, sizes_of}
 use Rattle.image_faults.specs.declared.faults.ImageFault.{ImageFault}
 use Rattle.image_faults.specs.declared.faults.ImageFault.TheVariants.{Slot, Super as FaultOfSuper}
@@ -71,6 +75,24 @@ reads_all (Some leg) g uuid k slots is so_far = (
   so_far.judged ∙ first_such_end (slot_is_wrong g uuid leg) k (nodes_of g) (omega (arith, is)),
   record { each = λ j c lt. so_far.bits j c (subst (λ n. j < n) is lt) },
 )
+
+pub many_more : (slots new : List (List Bool)) (set : List Bool) (k : ℕ) → new ≡ slots ++ set ∷ [] → length slots ≡ k → length new ≡ k + 1
+many_more slots new set k is many = ap length is ∙ length_push slots set ∙ ap (λ n. n + 1) many
+
+pub sets_more : (g : Sizes) (slots new : List (List Bool)) (set : List Bool) (k : ℕ) → new ≡ slots ++ set ∷ [] → length slots ≡ k → length set ≡ chunks_of g
+    → ((j : ℕ) → j < k → length (get_or slots j []) ≡ chunks_of g) → (j : ℕ) → j < k + 1 → length (get_or new j []) ≡ chunks_of g
+sets_more g slots new set k is many size before j lt = elim (cases_lt j k) [
+  | inl under ↦ ap (λ xs. length (get_or xs j [])) is ∙ ap length (get_or_append_left slots (set ∷ []) [] j (subst (λ n. j < n) (sym many) under)) ∙ before j under
+  | inr past ↦ let last : k ≡ j = omega arith in
+      ap (λ xs. length (get_or xs j [])) is ∙ ap length (get_or_push slots set [] j (many ∙ last)) ∙ size
+]
+
+pub pages_more_slots : (told : Option (List Sector)) (g : Sizes) (k : ℕ) → ArePages told g k (slot_pages g)
+    → ((j : ℕ) → j < k → ArePages told g j (slot_pages g)) → (j : ℕ) → j < k + 1 → ArePages told g j (slot_pages g)
+pages_more_slots told g k here before j lt = elim (cases_lt j k) [
+  | inl under ↦ before j under
+  | inr past ↦ let last : k ≡ j = omega arith in subst (λ n. ArePages told g n (slot_pages g)) last here
+]
 
 -- What is known of a leg once its superblock and its first page were read.
 
@@ -126,11 +148,22 @@ read_ended (Some leg) chunk size s n g (Fault f) is sizes ended =
 read_ended (Some leg) chunk size s n g Failed is sizes ended = tt
 read_ended (Some leg) chunk size s n g (Memory m) is sizes ended = tt
 
-pub read_done : (told : Option (List Sector)) (chunk : Option ℕ) (size : ℕ) (s : Super) (n : ℕ) (g : Sizes) (slots : Vec ChunkSet Global)
-    → Known told chunk size s n → Ok g ≡ sizes_of s n → ReadsSlots told g s.uuid (Ok slots.items)
-    → ReadsLeg told chunk size (Ok (record { superblock = s; geometry = g; slots = slots }))
-read_done None chunk size s n g slots is sizes done = tt
-read_done (Some leg) chunk size s n g slots is sizes done = record {
+-- the checksum that stands in the superblock, where the leg tells it
+abbrev pub Summed : Option (List Sector) → ℕ → Type 0
+Summed None sum = Unit {0}
+Summed (Some leg) sum = sum ≡ number_at (super_bytes leg) 216 4
+
+pub summed : (told : Option (List Sector)) (sum : ℕ) (block : Sector) → Gives told 8 block → sum ≡ number_at block.bytes 216 4 → Summed told sum
+summed None sum block gives is = tt
+summed (Some leg) sum block gives is =
+    is ∙ ap (λ v. number_at v.bytes 216 4) (sym (get_or_from_slice_get leg 8 block zero_sector gives))
+
+pub read_done : (told : Option (List Sector)) (chunk : Option ℕ) (size : ℕ) (s : Super) (n sum : ℕ) (g : Sizes) (slots : Vec ChunkSet Global)
+    → Known told chunk size s n → Ok g ≡ sizes_of s n → Summed told sum → ReadsSlots told g s.uuid (Ok slots.items)
+    → ReadsLeg told chunk size (Ok (record { superblock = s; sum = sum; geometry = g; slots = slots }))
+read_done None chunk size s n sum g slots is sizes total done = tt
+read_done (Some leg) chunk size s n sum g slots is sizes total done = record {
+  sum = total;
   sound = at_slots leg chunk size s n is ∙ ap (λ r. slots_fault r s.uuid leg) (sym sizes) ∙ ap (option_map Slot) done.0;
   superblock = is.superblock;
   sizes = sizes ∙ ap (sizes_of s) is.chunk_is;
@@ -148,3 +181,36 @@ off n c = elim (cases_lt c n) [
 pub not_there : {X : Type 0} (o : Option X) → ((x : X) → o ≡ Some x → ⊥) → o ≡ None
 not_there None absent = refl
 not_there (Some x) absent = absurd (absent x refl)
+
+-- Sizes that were checked are what they were.
+
+checked_as : (a b c d e : Bool) (g h : Sizes)
+    → Ok g ≡ (if a then Err Legs else if b then Err Sectors else if c then Err Room else if d then Err Chunk else if e then Err Bits else Ok h) → g ≡ h
+checked_as true b c d e g h is = absurd (cc is)
+checked_as false true c d e g h is = absurd (cc is)
+checked_as false false true d e g h is = absurd (cc is)
+checked_as false false false true e g h is = absurd (cc is)
+checked_as false false false false true g h is = absurd (cc is)
+checked_as false false false false false g h is = cc
+
+pub checked_is : (g h : Sizes) → Ok g ≡ checked h → g ≡ h
+checked_is g h is =
+    checked_as (nat_lt h.legs 2 || nat_lt 8 h.legs) (nat_lt h.sectors 1 || nat_lt 131072 h.sectors) (nat_lt h.room h.sectors || nat_lt 131072 h.room)
+    (not (chunk_size_test h.chunk)) (nat_lt (most_chunks h) (chunks_of h)) g h is
+
+given_is : (chunk : Option ℕ) (n k : ℕ) (page : List ℕ) → n ≡ own_chunk chunk page → k ≡ n → unwrap_or chunk k ≡ k
+given_is None n k page has is = refl
+given_is (Some c) n k page has is = sym (is ∙ has)
+
+pub fits_super : (chunk : Option ℕ) (size : ℕ) (s : Super) (n sum : ℕ) (g : Sizes) (slots : Vec ChunkSet Global) (page : List ℕ)
+    → IsSuper s → length_fault s size ≡ None → Ok g ≡ sizes_of s n → n ≡ own_chunk chunk page → HaveSets g slots.items
+    → FitsSuper chunk size (record { superblock = s; sum = sum; geometry = g; slots = slots })
+fits_super chunk size s n sum g slots page is long sizes has sets =
+    let e : g.chunk ≡ n = ap (λ h. h.chunk) (checked_is g (record { legs = s.geometry_legs; sectors = s.sectors; room = s.room; chunk = n; second = s.version == 2 }) sizes) in
+    record {
+      superblock = is;
+      long = long;
+      sizes = sizes ∙ ap (sizes_of s) (sym e);
+      given = given_is chunk n g.chunk page has e;
+      sets = sets;
+    }

@@ -1,5 +1,6 @@
 -- Slots, page by page.
-use Rattle.std.proofs.Common.{◌≡◌, ℕ, ◌+◌, ◌-◌, ◌<◌, ◌≤◌, ◌==◌, nat_lt, Bool, true, false, not, ◌&&◌, ◌||◌, List, get_or, Option, Some, None, is_some, Result, Ok, Err, ap, sym, ◌∙◌, arith}
+use Rattle.std.proofs.Common.{◌≡◌, ℕ, ◌+◌, ◌-◌, ◌<◌, ◌≤◌, ◌==◌, nat_lt, Bool, true, false, not, ◌&&◌, ◌||◌, List, get_or, Option, Some, None, is_some, Result, Ok, Err, ap, sym, ◌∙◌, arith, inl, inr, subst}
+use Rattle.std.proofs.lemmas.Bool.{cases_lt}
 use Rattle.std.proofs.lemmas.Bool.Decides.{nat_tests}
 use Rattle.std.proofs.lemmas.Option.{get_or_from_slice_get}
 use Rattle.std.specs.Prelude.{is_err, OnOk}
@@ -7,12 +8,12 @@ use Rattle.std.specs.Result.{result_err}
 use Rattle.dlm_modes.specs.First.{first_such}
 use Rattle.dlm_modes.proofs.FirstLaws.{first_such_more, first_such_found, first_such_end}
 use Rattle.mdc_types.specs.Geometry.{Sizes, slot_pages, page_of, page_sector, chunks_of}
-use Rattle.mdc_types.specs.Sectors.{zero_sector}
+use Rattle.mdc_types.specs.Sectors.{zero_sector, IsSector}
 use Rattle.mdc_types.specs.declared.numbers.Sector.{Sector}
 use Rattle.leg_store.specs.Leg.{Gives}
 use Rattle.slot_pages.specs.Faults.{slot_fault}
 use Rattle.slot_pages.specs.Slot.{page_has, chunk_bit, AddsPage}
-use Rattle.image_faults.specs.Slots.{page_bytes, page_is_wrong, slot_bit, JudgesSlot, AddsTo}
+use Rattle.image_faults.specs.Slots.{page_bytes, page_is_wrong, slot_bit, JudgesSlot, AddsTo, ArePages}
 
 -- so far no page below p was wrong
 abbrev pub JudgesTo : Option (List Sector) → Sizes → List ℕ → ℕ → ℕ → Type 0
@@ -86,3 +87,21 @@ fault_told (Err v) f b is e = ap is_some (sym is) ∙ e
 pub ok_has : {T E : Type 0} (r : Result T E) (P : Type 0) → is_err r ≡ false → OnOk r P → P
 ok_has (Ok v) P is p = p
 ok_has (Err v) P is p = absurd (cc is)
+
+pub pages_none : (told : Option (List Sector)) (g : Sizes) (k : ℕ) → ArePages told g k 0
+pages_none None g k = tt
+pages_none (Some leg) g k = λ p lt. absurd (omega (arith, lt))
+
+pub pages_more : (told : Option (List Sector)) (g : Sizes) (k p : ℕ) (page : Sector) → Gives told (page_sector g k p) page
+    → IsSector page.bytes → ArePages told g k p → ArePages told g k (p + 1)
+pages_more None g k p page gives is before = tt
+pages_more (Some leg) g k p page gives is before = λ q lt. elim (cases_lt q p) [
+  | inl below ↦ before q below
+  | inr past ↦ let last : p ≡ q = omega arith in
+      subst (λ n. IsSector (page_bytes g leg k n)) last
+      (subst (λ (s : Sector). IsSector s.bytes) (sym (get_or_from_slice_get leg (page_sector g k p) page zero_sector gives)) is)
+]
+
+pub pages_all : (told : Option (List Sector)) (g : Sizes) (k p n : ℕ) → n ≤ p → ArePages told g k p → ArePages told g k n
+pages_all None g k p n le are = tt
+pages_all (Some leg) g k p n le are = λ q lt. are q (omega arith)

@@ -1,17 +1,18 @@
 -- What is wrong with the image of a leg by itself.
 use Rattle.std.specs.Prelude.{◌≡◌, ℕ, ◌<◌, Bool, true, false, List, [], ◌∷◌, get_or}
-use Rattle.std.specs.Prelude.{Option, Some, None, Result, Ok, Err}
+use Rattle.std.specs.Prelude.{Option, Some, None, Result, Ok, Err, length, unwrap_or}
 use Rattle.std.specs.Option.{option_map}
 use Rattle.dlm_modes.specs.First.{first_such}
 use Rattle.dlm_modes.specs.Guards.{first_of}
-use Rattle.mdc_types.specs.Geometry.{Sizes, nodes_of}
+use Rattle.mdc_types.specs.Geometry.{Sizes, nodes_of, slot_pages, chunks_of}
 use Rattle.mdc_types.specs.Sectors.{zero_sector}
 use Rattle.mdc_types.specs.declared.geometry.GeomError.{GeomError}
 use Rattle.mdc_types.specs.declared.numbers.Sector.{Sector}
 use Rattle.md_superblock.specs.Faults.{fault_of}
-use Rattle.md_superblock.specs.Superblock.{super_of}
+use Rattle.md_superblock.specs.Layout.{number_at}
+use Rattle.md_superblock.specs.Superblock.{super_of, IsSuper}
 use Rattle.image_faults.specs.Sizes.{length_fault, chunk_in, sizes_of}
-use Rattle.image_faults.specs.Slots.{slot_is_wrong, slot_bit}
+use Rattle.image_faults.specs.Slots.{slot_is_wrong, slot_bit, ArePages}
 use Rattle.image_faults.specs.declared.faults.ImageFault.{ImageFault}
 use Rattle.image_faults.specs.declared.faults.ImageFault.TheVariants.{Super, Slot}
 use Rattle.image_faults.specs.declared.legs.LegEnd.{LegEnd}
@@ -77,6 +78,7 @@ ReadsSlots (Some leg) g uuid (Err (Memory e)) = Unit {0}
 pub record IsRead (chunk : Option ℕ) (size : ℕ) (leg : List Sector) (image : LegImage) : Type 0 where
   pub sound : leg_fault chunk size leg ≡ None
   pub superblock : image.superblock ≡ super_of (super_bytes leg)
+  pub sum : image.sum ≡ number_at (super_bytes leg) 216 4
   pub sizes : Ok image.geometry ≡ sizes_of image.superblock (own_chunk chunk (first_page leg))
   pub bits : HaveBits image.geometry leg image.slots.items
 
@@ -92,3 +94,21 @@ ReadsLeg (Some leg) chunk size (Err (Memory e)) = Unit {0}
 abbrev pub is_leg_failure : LegEnd → Bool
 is_leg_failure Failed = true
 is_leg_failure e = false
+
+-- one set for each slot, each of the array's chunks
+pub record HaveSets (g : Sizes) (slots : List (List Bool)) : Type 0 where
+  pub many : length slots ≡ nodes_of g
+  pub each : (k : ℕ) → k < nodes_of g → length (get_or slots k []) ≡ chunks_of g
+
+-- all pages of all slots are sectors, where the leg tells what it holds
+abbrev pub AllPages : Option (List Sector) → Sizes → Type 0
+AllPages told g = (k : ℕ) → k < nodes_of g → ArePages told g k (slot_pages g)
+
+-- of any leg, what it tells or not: its superblock is in its ranges, its file has the length and the
+-- sizes that this says, and there is a set for each slot
+pub record FitsSuper (chunk : Option ℕ) (size : ℕ) (image : LegImage) : Type 0 where
+  pub superblock : IsSuper image.superblock
+  pub long : length_fault image.superblock size ≡ None
+  pub sizes : Ok image.geometry ≡ sizes_of image.superblock image.geometry.chunk
+  pub given : unwrap_or chunk image.geometry.chunk ≡ image.geometry.chunk
+  pub sets : HaveSets image.geometry image.slots.items

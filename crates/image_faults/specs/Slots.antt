@@ -1,9 +1,9 @@
 -- What is wrong with the slots of a leg, and the bits that stand in them.
-use Rattle.std.specs.Prelude.{◌≡◌, ℕ, nat_lt, Bool, not, ◌&&◌, ◌||◌, false, List, get_or}
+use Rattle.std.specs.Prelude.{◌≡◌, ℕ, ◌<◌, nat_lt, Bool, not, ◌&&◌, ◌||◌, false, List, get_or}
 use Rattle.std.specs.Prelude.{Option, Some, None, is_some}
 use Rattle.dlm_modes.specs.First.{first_such}
 use Rattle.mdc_types.specs.Geometry.{Sizes, slot_pages, page_of, page_sector}
-use Rattle.mdc_types.specs.Sectors.{zero_sector}
+use Rattle.mdc_types.specs.Sectors.{zero_sector, IsSector}
 use Rattle.mdc_types.specs.declared.numbers.Sector.{Sector}
 use Rattle.slot_pages.specs.Faults.{slot_fault}
 use Rattle.slot_pages.specs.Slot.{page_has}
@@ -41,3 +41,8 @@ AddsTo (Some leg) g k n old new = AddsPages g leg k n old new
 -- the old chunks, and those of the slot, where the leg tells what it holds
 abbrev pub AddsSlot : Option (List Sector) → Sizes → ℕ → List Bool → List Bool → Type 0
 AddsSlot told g k old new = AddsTo told g k (slot_pages g) old new
+
+-- the first n pages of the slot are sectors, where the leg tells what it holds
+abbrev pub ArePages : Option (List Sector) → Sizes → ℕ → ℕ → Type 0
+ArePages None g k n = Unit {0}
+ArePages (Some leg) g k n = (p : ℕ) → p < n → IsSector (page_bytes g leg k p)

@@ -1,3 +1,5 @@
+ghost use Rattle.std.specs.Prelude.{◌≡◌};
+
 use md_superblock::SuperFault;
 use mdc_types::{LegId, NodeId, SectorNo};
 use std::alloc::AllocError;
@@ -47,4 +49,14 @@ pub enum ImageError {
     /// There was no memory.
     #[error("out of memory")]
     Memory(AllocError),
+}
+
+impl From<AllocError> for ImageError {
+    ghost use Rattle.image_faults.specs.declared.faults.ImageError.TheVariants as errors;
+
+    ghost from_gives = { λ fault e. e ≡ errors.Memory fault };
+
+    fn from(fault: AllocError) -> ImageError {
+        ImageError::Memory(fault)
+    }
 }

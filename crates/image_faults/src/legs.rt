@@ -1,14 +1,15 @@
-ghost use Rattle.std.specs.Prelude.{◌≡◌, ◌<◌, ◌≤◌, ◌-◌, ◌/◌, ◌^◌, ◌++◌, ◌∷◌, [], min, IfOk, OnOk, true};
+ghost use Rattle.std.specs.Prelude.{◌≡◌, ◌<◌, ◌≤◌, ◌-◌, ◌/◌, ◌^◌, ◌++◌, ◌∷◌, [], length, min, IfOk, OnOk, true};
 ghost use Rattle.std.specs.Result.{result_map_both};
 ghost use Rattle.mdc_types.specs.Faults.{HasCause};
-ghost use Rattle.mdc_types.specs.Geometry.{data_offset, nodes_of, page_sector};
+ghost use Rattle.mdc_types.specs.Geometry.{chunks_of, data_offset, nodes_of, page_sector, slot_pages};
 ghost use Rattle.leg_store.specs.Leg.{Gives};
-ghost use Rattle.image_faults.specs.Legs.{ReadsSlot, ReadsSlots, ReadsLeg, is_leg_failure, own_chunk};
+ghost use Rattle.image_faults.specs.Slots.{ArePages};
+ghost use Rattle.image_faults.specs.Legs.{ReadsSlot, ReadsSlots, ReadsLeg, HaveSets, AllPages, FitsSuper, is_leg_failure, own_chunk};
 
 use crate::sizes::{chunk_in, length_fault, sizes_of};
 use crate::{ImageFault, read_slot};
 use leg_store::LegDev;
-use md_superblock::{Super, read_super};
+use md_superblock::{Super, read_super, sum_of};
 use mdc_types::{ChunkSet, Failed, Geometry, NodeId, Sector};
 use std::alloc::{AllocError, Global};
 
@@ -51,6 +52,8 @@ impl From<AllocError> for LegEnd {
 #[derive(Drop)]
 pub struct LegImage {
     pub superblock: Super,
+    /// The checksum of its superblock.
+    pub sum: u32,
     /// The sizes by this leg's own superblock.
     pub geometry: Geometry,
     /// The chunks that each slot marks.
@@ -92,6 +95,8 @@ fn one_slot<L: LegDev>(
     requires size { data_offset g.now ≤ L.size leg.old }
     requires first { Gives (L.contents leg.old) (page_sector g.now 0 0) first.now }
     ensures judged { ReadsSlot (L.contents leg.old) g.now uuid.now k result }
+    ensures sectors { IfOk result (λ _. ArePages (L.contents leg.old) g.now k (slot_pages g.now)) }
+    ensures chunks { IfOk result (λ set. length set ≡ chunks_of g.now) }
     ensures contents { L.contents leg.new ≡ L.contents leg.old }
     ensures size { L.size leg.new ≡ L.size leg.old }
     ensures cause { HasCause is_leg_failure (L.faults leg.old) (L.faults leg.new) result }
@@ -132,7 +137,10 @@ fn read_slots<L: LegDev>(
 ) -> Result<Vec<ChunkSet>, LegEnd>
     requires size { data_offset g.now ≤ L.size leg.old }
     requires first { Gives (L.contents leg.old) (page_sector g.now 0 0) first.now }
-    ensures judged { ReadsSlots (L.contents leg.old) g.now uuid.now (result_map_both (λ v. v.items) (λ e. e) result) }
+    ensures judged { ReadsSlots (L.contents leg.old) g.now uuid.now
+        (result_map_both (λ v. v.items) (λ e. e) result) }
+    ensures pages { IfOk result (λ _. AllPages (L.contents leg.old) g.now) }
+    ensures sets { IfOk result (λ slots. HaveSets g.now slots.items) }
     ensures contents { L.contents leg.new ≡ L.contents leg.old }
     ensures size { L.size leg.new ≡ L.size leg.old }
     ensures cause { HasCause is_leg_failure (L.faults leg.old) (L.faults leg.new) result }
@@ -158,11 +166,14 @@ pub fn read_leg<L: LegDev>(
     requires least { 40960 ≤ size }
     requires size { L.size leg.old ≡ min (size / 512) (2 ^ 32 - 1) }
     ensures judged { ReadsLeg (L.contents leg.old) chunk size result }
+    ensures pages { IfOk result (λ image. AllPages (L.contents leg.old) image.geometry) }
+    ensures fits { IfOk result (λ image. FitsSuper chunk size image) }
     ensures contents { L.contents leg.new ≡ L.contents leg.old }
     ensures size { L.size leg.new ≡ L.size leg.old }
     ensures cause { HasCause is_leg_failure (L.faults leg.old) (L.faults leg.new) result }
 {
-    let superblock = match read_super(&leg.read(SUPERBLOCK)?) {
+    let block = leg.read(SUPERBLOCK)?;
+    let superblock = match read_super(&block) {
         Ok(superblock) => superblock,
         Err(fault) => return Err(LegEnd::Fault(ImageFault::Super(fault))),
     };
@@ -177,6 +188,7 @@ pub fn read_leg<L: LegDev>(
     match read_slots(alloc, leg, &geometry, &superblock.uuid, &first) {
         Ok(slots) => Ok(LegImage {
             superblock,
+            sum: sum_of(&block),
             geometry,
             slots,
         }),

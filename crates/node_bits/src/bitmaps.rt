@@ -1,11 +1,12 @@
-ghost use Rattle.std.specs.Prelude.{◌≡◌, ◌<◌, ◌≤◌, true, false, length, get_or, IfOk};
+ghost use Rattle.std.specs.Prelude.{◌≡◌, ◌<◌, ◌≤◌, ◌-◌, true, false, not, ◌&&◌, length, get_or, IfOk};
+ghost use Rattle.dlm_modes.specs.First.{first_such};
 ghost use Rattle.dlm_modes.specs.Points.{with_at};
 ghost use Rattle.mdc_types.specs.Bits.{has_bit};
 ghost use Rattle.mdc_types.specs.Geometry.{chunks_of, pages_of, slot_pages};
 ghost use Rattle.slot_pages.specs.Slot.{spelled_page, page_has};
 ghost use Rattle.node_bitmaps.specs.Bitmap.{empty, with_set, with_need, entered, exited, written, failed, with_new_legs, found_page, forgotten};
-ghost use Rattle.node_bitmaps.specs.Bitmap.{first_set, first_needed_of, old_target, unmarked_target, unmarked_target_of};
-ghost use Rattle.node_bitmaps.specs.Map.{bitmap_of};
+ghost use Rattle.node_bitmaps.specs.Bitmap.{first_set, first_needed, first_needed_of, first_old, old_target, first_unmarked, unmarked_target, unmarked_target_of};
+ghost use Rattle.node_bitmaps.specs.Map.{bitmap_of, chunks_in};
 ghost use Rattle.node_bits.specs.Bitmaps.{bitmaps_of, map_at, opened, AreNew};
 
 use mdc_types::{ChunkNo, ChunkSet, Geometry, LegId, NodeId, PageNo, Sector};
@@ -43,6 +44,27 @@ fn new_maps(alloc: Global, g: &Geometry) -> Result<Vec<NodeMap>, AllocError>
         maps.push(NodeMap::new(alloc, g)?)?;
     }
     Ok(maps)
+}
+
+// The chunk is in the set and isn't to be copied.
+fn is_settled(map: &NodeMap, c: ChunkNo) -> bool
+    requires { c < chunks_in map.now }
+    ensures { let bits = bitmap_of map.now in result ≡ (bits.set c && not (bits.need c)) }
+{
+    map.has(c) && !map.needs(c)
+}
+
+// The first such chunk from `from` on.
+fn first_settled(map: &NodeMap, from: ChunkNo) -> Option<ChunkNo>
+    ensures { let bits = bitmap_of map.now in
+        result ≡ first_such (λ k. bits.set k && not (bits.need k)) from (chunks_in map.now - from) }
+{
+    for c in from..map.chunks() {
+        if is_settled(map, c) {
+            return Some(c);
+        }
+    }
+    None
 }
 
 impl Bitmaps {
@@ -101,6 +123,23 @@ impl Bitmaps {
         self.maps[n as usize].first_set()
     }
 
+    /// The first chunk from `c` on that is in the node's set and isn't to be copied.
+    pub fn first_settled_from(&self, n: NodeId, c: ChunkNo) -> Option<ChunkNo>
+        requires { n < 16 }
+        ensures { let bits = bitmaps_of self.now n in result ≡ first_such
+            (λ k. bits.set k && not (bits.need k)) c (chunks_of self.now.sizes - c) }
+    {
+        first_settled(&self.maps[n as usize], c)
+    }
+
+    /// The first chunk that is to be copied.
+    pub fn first_needed(&self, n: NodeId) -> Option<ChunkNo>
+        requires { n < 16 }
+        ensures { result ≡ first_needed self.now.sizes (bitmaps_of self.now n) }
+    {
+        self.maps[n as usize].first_needed()
+    }
+
     /// The first of these chunks that is to be copied.
     pub fn first_needed_of(&self, n: NodeId, chunks: &ChunkSet) -> Option<ChunkNo>
         requires node { n < 16 }
@@ -117,6 +156,24 @@ impl Bitmaps {
         ensures { result ≡ old_target self.now.sizes (bitmaps_of self.now n) (has_bit targets) }
     {
         self.maps[n as usize].old_target(targets)
+    }
+
+    /// The first page of the slot that isn't fresh on one of the legs, and the least such leg.
+    pub fn first_old(&self, n: NodeId, targets: u8) -> Option<(PageNo, LegId)>
+        requires { n < 16 }
+        ensures { result ≡ first_old self.now.sizes (bitmaps_of self.now n) (has_bit targets) }
+    {
+        self.maps[n as usize].first_old(targets)
+    }
+
+    /// The first page with a chunk of the node's set that has no mark on one of the legs, and the
+    /// least such leg.
+    pub fn first_unmarked(&self, n: NodeId, targets: u8) -> Option<(PageNo, LegId)>
+        requires { n < 16 }
+        ensures { result ≡ first_unmarked self.now.sizes (bitmaps_of self.now n)
+            (has_bit targets) }
+    {
+        self.maps[n as usize].first_unmarked(targets)
     }
 
     /// The least of the legs where the chunk has no mark.

@@ -1,5 +1,6 @@
 -- What all nodes have of copying, as plain data, and what it stands for.
 use Rattle.std.specs.Prelude.{◌≡◌, ℕ, Bool, false, List, [], get_or, Option, Some, None}
+use Rattle.dlm_modes.specs.First.{first_such}
 use Rattle.mdc_types.specs.Geometry.{Sizes, chunks_of}
 use Rattle.resync_worker.specs.Copying.{Copying, Passing, passing_of, first_todo}
 use Rattle.cluster_model.specs.State.{Copy}
@@ -59,3 +60,8 @@ pub record AreCopies (g : Sizes) (places : List NodeCopy) (chunks : ℕ) : Type 
 abbrev pub first_left : Sizes → Option Passing → Option ℕ
 first_left g None = None
 first_left g (Some p) = first_todo g p
+
+-- the first leg that a pass, if there is one, covers
+abbrev pub first_covered : Option Passing → Option ℕ
+first_covered None = None
+first_covered (Some p) = first_such p.covered 0 8

@@ -1,7 +1,7 @@
 -- The recoveries of all nodes, as plain data, and what they stand for.
 use Rattle.std.specs.Prelude.{◌≡◌, ℕ, Bool, false, List, [], get_or, Option, Some, None}
 use Rattle.mdc_types.specs.Geometry.{Sizes, chunks_of, pages_of}
-use Rattle.node_recovery.specs.Progress.{Progress, Recovering, recovering_of, HasSize, unread_leg, uncleared_leg}
+use Rattle.node_recovery.specs.Progress.{Progress, Recovering, recovering_of, HasSize, unread, uncleared, unread_leg, uncleared_leg}
 use Rattle.node_copies.specs.Places.{some_if}
 use Rattle.node_copies.specs.declared.places.NodeRecovery.{NodeRecovery}
 
@@ -42,3 +42,11 @@ first_unread g (Some r) legs = unread_leg g r legs
 abbrev pub first_uncleared : Sizes → Option Recovering → (ℕ → Bool) → Option ℕ
 first_uncleared g None legs = None
 first_uncleared g (Some r) legs = uncleared_leg g r legs
+
+abbrev pub page_unread : Sizes → Option Recovering → (ℕ → Bool) → Option (ℕ × ℕ)
+page_unread g None legs = None
+page_unread g (Some r) legs = unread g r legs
+
+abbrev pub page_uncleared : Sizes → Option Recovering → (ℕ → Bool) → Option (ℕ × ℕ)
+page_uncleared g None legs = None
+page_uncleared g (Some r) legs = uncleared g r legs

@@ -10,7 +10,7 @@ ghost use Rattle.cluster_model.specs.Changes.{no_copy, window_closed};
 ghost use Rattle.cluster_model.specs.Phases.{copy_word};
 ghost use Rattle.cluster_model.specs.Copying.{next_for, buffer_in};
 ghost use Rattle.cluster_model.specs.Wishes.{has_copied};
-ghost use Rattle.node_copies.specs.Copies.{copies_of, copy_of, first_left, IsNew, no_place};
+ghost use Rattle.node_copies.specs.Copies.{copies_of, copy_of, first_left, first_covered, IsNew, no_place};
 ghost use Rattle.node_copies.specs.Places.{AreAll};
 ghost use Rattle.node_copies.specs.declared.places.NodeCopy.{NodeCopy};
 
@@ -132,6 +132,14 @@ impl Copies {
         ensures { result ≡ first_left self.now.sizes (copies_of self.now n).pass }
     {
         node_copy::left_of(&self.places[n as usize])
+    }
+
+    /// The first leg that the pass covers. None where there is no pass.
+    pub fn covered(&self, n: NodeId) -> Option<LegId>
+        requires { n < 16 }
+        ensures { result ≡ first_covered (copies_of self.now n).pass }
+    {
+        node_copy::covered(&self.places[n as usize])
     }
 
     /// Whether the pass covers the leg and has nothing left to copy.

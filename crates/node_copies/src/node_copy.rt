@@ -7,11 +7,12 @@ ghost use Rattle.cluster_model.specs.Changes.{no_copy, window_closed};
 ghost use Rattle.cluster_model.specs.Phases.{copy_word};
 ghost use Rattle.cluster_model.specs.Copying.{next_for, buffer_in};
 ghost use Rattle.cluster_model.specs.Wishes.{has_copied};
-ghost use Rattle.node_copies.specs.Copies.{copy_of, first_left};
+ghost use Rattle.node_copies.specs.Copies.{copy_of, first_left, first_covered};
 
 // What one node has of copying.
 
 use crate::places::{NodeCopy, Turn};
+use leg_failure::least_leg;
 use mdc_types::{ChunkNo, ChunkSet, LegId, Sector, SectorNo, Word};
 
 pub fn word_of(x: &NodeCopy) -> Word
@@ -59,6 +60,16 @@ pub fn left_of(x: &NodeCopy) -> Option<ChunkNo>
     ensures { result ≡ first_left x.now.pass.sizes (copy_of x.now).pass }
 {
     if x.begun { x.pass.left() } else { None }
+}
+
+pub fn covered(x: &NodeCopy) -> Option<LegId>
+    ensures { result ≡ first_covered (copy_of x.now).pass }
+{
+    if x.begun {
+        least_leg(x.pass.covered())
+    } else {
+        None
+    }
 }
 
 pub fn has_copied(x: &NodeCopy, l: LegId) -> bool

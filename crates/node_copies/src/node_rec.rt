@@ -4,7 +4,7 @@ ghost use Rattle.mdc_types.specs.Bits.{has_bit};
 ghost use Rattle.mdc_types.specs.Geometry.{Sizes, chunks_of, pages_of, slot_pages};
 ghost use Rattle.slot_pages.specs.Slot.{page_has};
 ghost use Rattle.node_recovery.specs.Progress.{begun, with_read, with_found, with_cleared, HasSize, pages_in, chunks_in};
-ghost use Rattle.node_copies.specs.Recoveries.{recovery_of, first_unread, first_uncleared};
+ghost use Rattle.node_copies.specs.Recoveries.{recovery_of, first_unread, first_uncleared, page_unread, page_uncleared};
 
 use crate::places::NodeRecovery;
 use mdc_types::{Geometry, LegId, NodeId, PageNo, Sector};
@@ -37,6 +37,28 @@ pub fn first_uncleared(g: &Geometry, x: &NodeRecovery, targets: u8) -> Option<Le
 {
     if x.begun {
         x.recovery.uncleared_leg(targets)
+    } else {
+        None
+    }
+}
+
+pub fn unread(g: &Geometry, x: &NodeRecovery, working: u8) -> Option<(PageNo, LegId)>
+    requires { pages_in x.now.recovery ≡ pages_of g.now }
+    ensures { result ≡ page_unread g.now (recovery_of x.now) (has_bit working) }
+{
+    if x.begun {
+        x.recovery.unread(working)
+    } else {
+        None
+    }
+}
+
+pub fn uncleared(g: &Geometry, x: &NodeRecovery, targets: u8) -> Option<(PageNo, LegId)>
+    requires { pages_in x.now.recovery ≡ pages_of g.now }
+    ensures { result ≡ page_uncleared g.now (recovery_of x.now) (has_bit targets) }
+{
+    if x.begun {
+        x.recovery.uncleared(targets)
     } else {
         None
     }

@@ -5,7 +5,7 @@ ghost use Rattle.mdc_types.specs.Geometry.{chunks_of, pages_of, slot_pages};
 ghost use Rattle.slot_pages.specs.Slot.{page_has};
 ghost use Rattle.node_recovery.specs.Progress.{Recovering, begun, with_read, with_found, with_cleared};
 ghost use Rattle.cluster_model.specs.Phases.{recovery_word};
-ghost use Rattle.node_copies.specs.Recoveries.{recoveries_of, recovery_of, first_unread, first_uncleared, IsNew, no_place};
+ghost use Rattle.node_copies.specs.Recoveries.{recoveries_of, recovery_of, first_unread, first_uncleared, page_unread, page_uncleared, IsNew, no_place};
 ghost use Rattle.node_copies.specs.Places.{AreAll};
 ghost use Rattle.node_copies.specs.declared.places.NodeRecovery.{NodeRecovery};
 
@@ -107,6 +107,25 @@ impl Recoveries {
             (has_bit targets) }
     {
         node_rec::first_uncleared(&self.geometry, &self.places[n as usize], targets)
+    }
+
+    /// The first page that wasn't read from each leg of the set, and the least such leg. None where
+    /// there is no recovery.
+    pub fn unread(&self, n: NodeId, working: u8) -> Option<(PageNo, LegId)>
+        requires { n < 16 }
+        ensures { result ≡ page_unread self.now.sizes (recoveries_of self.now n) (has_bit working) }
+    {
+        node_rec::unread(&self.geometry, &self.places[n as usize], working)
+    }
+
+    /// The first page that wasn't cleared on each leg of the set, and the least such leg. None where
+    /// there is no recovery.
+    pub fn uncleared(&self, n: NodeId, targets: u8) -> Option<(PageNo, LegId)>
+        requires { n < 16 }
+        ensures { result ≡ page_uncleared self.now.sizes (recoveries_of self.now n)
+            (has_bit targets) }
+    {
+        node_rec::uncleared(&self.geometry, &self.places[n as usize], targets)
     }
 
     /// The chunks that the node's recovery found. They mean nothing where there is no recovery.

@@ -3,7 +3,7 @@ use Rattle.leg_store.specs.Leg.{Gives}
 use Rattle.mdc_types.specs.Geometry.{page_sector}
 use Rattle.slot_pages.specs.Faults.{slot_fault}
 use Rattle.slot_pages.specs.Slot.{AddsPage}
-use Rattle.image_faults.proofs.SlotLaws.{judges_more, judges_wrong, judges_all, adds_more, fault_told, ok_has}
+use Rattle.image_faults.proofs.SlotLaws.{judges_more, judges_wrong, judges_all, adds_more, pages_more, fault_told, ok_has}
 use Rattle.image_faults.proofs.slots.read_slot.Goals as goal
 
 pub returns-then-is_err-clause-judged : goal.returns-then-is_err-clause-judged
@@ -28,6 +28,7 @@ loop-p-preserved g c =
       judged = judges_more (g.L.LegDev.contents c.args.leg.now) c.args.g.now c.args.uuid.now c.args.k c.loop-p.p page gives
           (fault_told c.read_page.result (slot_fault c.args.g.now c.args.uuid.now c.loop-p.p page.bytes) _ c.read_page.ensures.fault sound)
           (omega arith) c.loop-p.invariant.judged;
+      sectors = pages_more (g.L.LegDev.contents c.args.leg.now) c.args.g.now c.args.k c.loop-p.p page gives c.in_ok-page.ensures.sector c.loop-p.invariant.sectors;
       bits = adds_more (g.L.LegDev.contents c.args.leg.now) c.args.g.now c.args.k c.loop-p.p page c.args.set.now c.loop-p.set c.read_page.new.into
           gives added c.loop-p.invariant.bits;
     }
