@@ -2,6 +2,7 @@
 #![tactic(auto)]
 
 mod apply;
+mod promises;
 mod world;
 
 pub use world::{NoWorld, StepEnd, TRACE_LIMIT, World};

@@ -9,6 +9,7 @@ ghost use Rattle.node_bits.specs.Bitmaps.{map_at};
 ghost use Rattle.world_state.specs.Kept.{core_of, no_parts};
 ghost use Rattle.world_state.specs.Told.{Fits, Carries, legs_of, seen_of as legs_seen};
 ghost use Rattle.cluster_core.specs.World.{Reachable, trace_limit};
+ghost use Rattle.cluster_core.specs.Promises.{KeepsPromises};
 
 use crate::apply::{apply, may};
 use laws_rounds::told_rounds_go_on;
@@ -98,6 +99,22 @@ impl<L: LegDev> World<L> {
                 trace: Vec::new(alloc),
             }),
         }
+    }
+
+    /// Gives the legs back as they are, with all that was promised of the world: where they tell
+    /// their contents, superblocks and pages of slots can be read again.
+    pub fn into_legs(self) -> Vec<L>
+        ensures legs { legs_seen L.contents L.size L.faults L.plan result.items ≡ self.legs }
+        ensures promises { KeepsPromises self }
+    {
+        self.promises();
+        let World {
+            opening: _,
+            core: _,
+            legs,
+            trace: _,
+        } = self;
+        legs
     }
 
     /// What the world was opened with.

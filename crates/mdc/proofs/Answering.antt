@@ -9,7 +9,7 @@ use Rattle.cluster_model.specs.State.{State}
 use Rattle.cluster_model.specs.Contents.{SoundOpening}
 use Rattle.cluster_model.specs.Run.{Run}
 use Rattle.laws_roles.specs.Laws.{Tells}
-use Rattle.laws_history.proofs.Places.{runs_cut, legs_tell}
+use Rattle.laws_promises.proofs.Promises.{promised}
 use Rattle.cluster_core.specs.World.{trace_limit}
 use Rattle.script_text.specs.declared.command.Command.{Command}
 use Rattle.script_text.specs.declared.command.Command.TheVariants as commands
@@ -27,7 +27,7 @@ use Rattle.script_text.proofs.DueLaws.{due_all, due_cut_all}
 use Rattle.std.specs.Str.{bytes_eq}
 use Rattle.mdc.specs.Call.{Outside, Wrote, WroteLess, Reads, usage_line, read_fault_line, script_line, trace_full_line}
 use Rattle.mdc.specs.Opened.{Stand, state_at, origin_of, Starts}
-use Rattle.mdc.specs.Playing.{AtPlace, Playing, Plays, SoFar, CutShort, Halted, RanFull}
+use Rattle.mdc.specs.Playing.{Playing, Plays, SoFar, CutShort, Halted, RanFull}
 use Rattle.mdc.specs.Answers.{Judged, PlayAnswers, AnswersTo, Answers, Ran, PlaysFirst, PlaysFull, ReadsScript, ReadsNone}
 use Rattle.mdc.specs.Answers.RunText.{first_lines, then_full}
 use Rattle.mdc.specs.Answers.IsText.{no_input, no_script, of_run}
@@ -36,7 +36,6 @@ use Rattle.mdc.specs.LockAnswers.LocksCut.{at_input, at_fault, in_run}
 use Rattle.mdc.specs.WireAnswers.WireCut.{at_input as at_wire_input}
 use Rattle.mdc.specs.declared.status.Status.{Status}
 use Rattle.mdc.specs.declared.status.Status.TheVariants as statuses
-use Rattle.mdc.proofs.Headline.{promises_at, legal_at}
 use Rattle.mdc.proofs.Played.{run_of}
 use Rattle.mdc.proofs.SoundStart.{sound_start, tells_start}
 
@@ -56,20 +55,6 @@ module _ (script : ScriptValue) (start : Stand) (starts : Starts script start) w
   tells : Tells (origin_of script.start) (state_at start)
   tells = tells_start script start starts
 
-  -- up to each place and from there on it is a run, by the laws of all runs
-  place_of : (before later : List Entry) (end : State)
-      → Run (state_at start) (later ++ before) end
-      → AtPlace script.start (state_at start) before later end
-  place_of before later end run =
-      let place = runs_cut (state_at start) before later end run in
-      record {
-        here = place.state;
-        run = place.before;
-        rest = place.after;
-        told = λ l lt. legs_tell (state_at start) before place.state place.before l ∙ starts.told l lt;
-        promises = promises_at (origin_of script.start) (state_at start) place.state before sound tells place.before;
-      }
-
   playing_of : (lines : List Line) (end : Stand) (text : List ℕ)
       → Plays start (reverse lines) end text
       → length end.past ≤ trace_limit → Playing script lines end text
@@ -81,8 +66,7 @@ module _ (script : ScriptValue) (start : Stand) (starts : Starts script start) w
         plays = plays;
         run = run;
         few = few;
-        legal = legal_at (origin_of script.start) (state_at start) (state_at end) end.past sound tells run;
-        places = λ before later is. place_of before later (state_at end) (subst (λ p. Run (state_at start) p (state_at end)) is run);
+        promised = promised (origin_of script.start) (state_at start) sound tells (state_at end) end.past run;
       }
 
   module _ (end : Stand) (few : length end.past ≤ trace_limit) (w mid now : Option (List ℕ)) where

@@ -1,4 +1,3 @@
-mod Headline
 mod SoundStart
 mod Within
 mod Header

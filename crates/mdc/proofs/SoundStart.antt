@@ -2,25 +2,20 @@
 use Rattle.std.proofs.Common.{◌≡◌, List, ℕ, refl}
 use Rattle.cluster_model.specs.Contents.{SoundOpening}
 use Rattle.laws_roles.specs.Laws.{Tells}
-use Rattle.laws_roles.proofs.Headers.{header_name, header_uuid}
-use Rattle.laws_writes.proofs.Headers.{headers_are_sound}
+use Rattle.laws_promises.proofs.Headers.{header_sound, header_tells}
 use Rattle.cluster_core.specs.World.{Seen, state}
 use Rattle.script_text.specs.Script.{ScriptValue}
 use Rattle.script_text.specs.declared.script.Line.{Line}
-use Rattle.mdc.specs.Opened.{ComesSound, Starts, Stand, origin_of, sizes_of, stand, state_at}
+use Rattle.mdc.specs.Opened.{ComesSound, Starts, Stand, origin_of, stand, state_at}
 use Rattle.mdc.specs.Playing.{Takes}
 use Rattle.mdc.proofs.Played.{moves_on}
 
 module _ (script : ScriptValue) (start : Stand) (starts : Starts script start) where
   pub sound_start : SoundOpening (origin_of script.start) (state_at start)
-  sound_start = headers_are_sound (origin_of script.start) (state_at start) starts.opens starts.header starts.told
+  sound_start = header_sound (origin_of script.start) (state_at start) starts.header starts.told starts.opens
 
   pub tells_start : Tells (origin_of script.start) (state_at start)
-  tells_start = record {
-    legs = starts.told;
-    name = header_name (sizes_of script.start) script.start.nodes script.start.spares script.start.warm;
-    uuid = header_uuid (sizes_of script.start) script.start.nodes script.start.spares script.start.warm;
-  }
+  tells_start = header_tells (origin_of script.start) (state_at start) starts.header starts.told
 
 -- A world at the script's start came soundly there, and goes on so.
 

@@ -21,7 +21,6 @@ use Rattle.cluster_core.specs.World.{Seen, state}
 use Rattle.report_text.specs.Queries.{bad_line}
 use Rattle.mdc.specs.QueryAnswers.{Checks}
 use Rattle.mdc.specs.QueryAnswers.Judges.{first_bad}
-use Rattle.mdc.proofs.Headline.{legal_at}
 use Rattle.cluster_model.specs.State.{Core, State, Legs, sizes}
 use Rattle.cluster_model.specs.Writes.{w_guards}
 use Rattle.cluster_model.specs.Table.{refusal}
@@ -37,6 +36,7 @@ use Rattle.laws_sound.proofs.Failing.{not_last}
 use Rattle.laws_sound.proofs.Guarded.{all_none, unless_none}
 use Rattle.laws_sound.proofs.LegSteps.{same_array}
 use Rattle.laws_sound.proofs.Runs.{runs_are_in_range, rounded}
+use Rattle.laws_promises.proofs.Promises.{promised}
 
 below : (a b : ℕ) → nat_lt a b ≡ true → a < b
 below a b is = grind (arith, nat_tests)
@@ -102,7 +102,7 @@ pub checks_bad : (seen : Seen) (lists : List (List Sector)) (trace : List Entry)
     → answer ≡ checks.FirstBad place → Checks seen text
 checks_bad seen lists trace place answer text is are bad says iff found = record {
   judges = first_bad place (rw (← is, are, reverse-reverse trace) bad) says;
-  sound = λ c. absurd (none (iff.1 (rw (is, ← are) (legal_at seen.origin c.start (state seen) seen.past c.sound c.tells c.run))));
+  sound = λ c. absurd (none (iff.1 (rw (is, ← are) (promised seen.origin c.start c.sound c.tells (state seen) seen.past c.run).legal)));
 }
   where
     none : answer ≡ checks.Legal → ⊥

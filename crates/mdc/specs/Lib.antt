@@ -4,6 +4,5 @@ pub mod Codes
 pub mod LockAnswers
 pub mod Opened
 pub mod Playing
-pub mod Promises
 pub mod QueryAnswers
 pub mod WireAnswers

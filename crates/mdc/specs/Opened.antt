@@ -60,10 +60,6 @@ sizes_of s = record {
 abbrev pub origin_of : Start → Origin
 origin_of s = header_at (sizes_of s) s.nodes s.warm s.spares
 
--- the values of each sector at the header's opening
-abbrev pub base_of : Start → ℕ → List Sector
-base_of s = values_at (origin_of s).base
-
 -- what a failed write leaves
 abbrev pub left_by : Bool → Left
 left_by new = if new then New else Old

@@ -3,25 +3,21 @@ use Rattle.std.specs.Prelude.{◌≡◌, ◌⊎◌, ◌<◌, ◌≤◌, ℕ, Lis
 use Rattle.std.specs.Prelude.{slice_get, Option, Some, None}
 use Rattle.mdc_types.specs.declared.events.Event.{Event}
 use Rattle.mdc_types.specs.declared.outcomes.Outcome.{Outcome}
-use Rattle.mdc_types.specs.declared.outcomes.Entry.{Entry}
 use Rattle.mdc_types.specs.declared.refusals.Refusal.{Refusal}
-use Rattle.plain_history.specs.History.{Legal, candidates}
-use Rattle.cluster_model.specs.State.{State}
 use Rattle.cluster_model.specs.Table.{refusal}
 use Rattle.cluster_model.specs.Run.{Run, entry}
+use Rattle.laws_promises.specs.Laws.{Promised}
 use Rattle.world_state.specs.Kept.{core_of}
 use Rattle.world_state.specs.Told.{Carries}
 use Rattle.cluster_core.specs.World.{trace_limit}
 use Rattle.script_text.specs.Outside.{WroteFront, IsDue}
 use Rattle.script_text.specs.Script.{ScriptValue}
-use Rattle.script_text.specs.declared.script.Start.{Start}
 use Rattle.script_text.specs.declared.script.Line.{Line}
 use Rattle.script_text.specs.declared.script.Line.TheVariants as line_kinds
 use Rattle.report_text.specs.Outcomes.{outcome_line}
 use Rattle.report_text.specs.Queries.{legal_line}
 use Rattle.mdc.specs.Call.{printed}
-use Rattle.mdc.specs.Opened.{Stand, state_at, base_of, AllTold, Starts}
-use Rattle.mdc.specs.Promises.{Promises}
+use Rattle.mdc.specs.Opened.{Stand, state_at, origin_of, Starts}
 use Rattle.mdc.specs.QueryAnswers.{refused_line, query_line}
 
 -- One line.
@@ -68,16 +64,6 @@ abbrev pub Plays : Stand → List Line → Stand → List ℕ → Type 0
 Plays start [] end text = (end ≡ start) × (text ≡ [])
 Plays start (line ∷ lines) end text = AddsLine (Plays start lines) line end text
 
--- A place of a run: up to there it is a run, and from there on. Each leg tells its contents there,
--- and all is as promised.
-pub record AtPlace (header : Start) (start : State) (before later : List Entry) (end : State)
-    : Type 0 where
-  pub here : State
-  pub run : Run start before here
-  pub rest : Run here later end
-  pub told : AllTold header here
-  pub promises : Promises (candidates (base_of header) before) start before here
-
 -- These lines were played from the header's opening. There is one trace, no longer than it may be,
 -- and a run with just its entries. Its reads and writes are one legal history, and at each of its
 -- places all is as promised, whatever its events are and whichever transfers failed.
@@ -88,9 +74,7 @@ pub record Playing (script : ScriptValue) (lines : List Line) (end : Stand) (tex
   pub plays : Plays start (reverse lines) end text
   pub run : Run (state_at start) end.past (state_at end)
   pub few : length end.past ≤ trace_limit
-  pub legal : Legal (base_of script.start) end.past
-  pub places : (before later : List Entry) → end.past ≡ later ++ before
-      → AtPlace script.start (state_at start) before later (state_at end)
+  pub promised : Promised (origin_of script.start) (state_at start) end.past (state_at end)
 
 -- How far lines were played.
 
