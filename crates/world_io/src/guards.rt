@@ -1,5 +1,5 @@
 // The guards of each row, in order.
-ghost use Rattle.std.specs.Prelude.{◌≡◌, ◌<◌, not, ◌&&◌, ◌||◌, IsSome, IfOk, nat_lt, length, is_some};
+ghost use Rattle.std.specs.Prelude.{◌≡◌, ◌<◌, not, ◌&&◌, ◌||◌, IsSome, nat_lt, length, is_some};
 ghost use Rattle.dlm_modes.specs.First.{first_such};
 ghost use Rattle.dlm_modes.specs.Guards.{unless};
 ghost use Rattle.mdc_types.specs.Geometry.{nodes_of, chunks_of, chunk_start, chunk_end};
@@ -9,7 +9,7 @@ ghost use Rattle.mirror_io.specs.Flight.{write_in, read_in};
 ghost use Rattle.leg_failure.specs.Views.{view_of, is_target};
 ghost use Rattle.suspend_ranges.specs.Suspended.{covering};
 ghost use Rattle.cluster_model.specs.Bits.{is_degraded};
-ghost use Rattle.cluster_model.specs.Guards.{refused_by, found_or, no_leg, draining_in};
+ghost use Rattle.cluster_model.specs.Guards.{refused_by, found_or, draining_in};
 ghost use Rattle.cluster_model.specs.Phases.{needs_up};
 ghost use Rattle.cluster_model.specs.Table.{refusal};
 ghost use Rattle.cluster_model.specs.Writes.{not_leaving, no_sector, no_write, unmarked_leg, unwritten_target, writer_of};
@@ -75,14 +75,6 @@ fn check_free(core: &CoreState, s: SectorNo) -> Result<(), Refusal>
         None => Ok(()),
         Some(m) => Err(Refusal::InFlight(m)),
     }
-}
-
-// The leg is one of the array's, of which there are eight at most.
-fn check_leg(core: &CoreState, l: LegId) -> Result<(), Refusal>
-    ensures guard { Judges result (no_leg (core_of core.now) l) }
-    ensures leg { IfOk result (λ _. l < 8) }
-{
-    check(l < core.identity.geometry.legs(), Refusal::NoLeg(l))
 }
 
 fn check_write(core: &CoreState, n: NodeId, k: WriteNo) -> Result<(), Refusal>
@@ -305,7 +297,7 @@ pub fn may_write_page(core: &CoreState, n: NodeId, p: PageNo, l: LegId) -> Resul
     core.check_node(n)?;
     core.check_unfenced(n)?;
     core.check_live(n)?;
-    check_leg(core, l)?;
+    core.check_leg(l)?;
     core.check_up(n)?;
     core.check_page(p)?;
     core.check_target(n, l)
@@ -319,7 +311,7 @@ pub fn may_out(core: &CoreState, n: NodeId, k: WriteNo, l: LegId) -> Result<(), 
     core.check_node(n)?;
     core.check_unfenced(n)?;
     core.check_live(n)?;
-    check_leg(core, l)?;
+    core.check_leg(l)?;
     core.check_up(n)?;
     check_write(core, n, k)?;
     core.check_target(n, l)?;

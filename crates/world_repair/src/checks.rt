@@ -1,11 +1,11 @@
 // Guards of copying, of additions and of recoveries.
-ghost use Rattle.std.specs.Prelude.{◌≡◌, ◌<◌, ◌||◌, ◌&&◌, not, OnOk};
+ghost use Rattle.std.specs.Prelude.{◌≡◌, ◌<◌, ◌||◌, ◌&&◌, not};
 ghost use Rattle.dlm_modes.specs.Guards.{unless};
 ghost use Rattle.mdc_types.specs.Geometry.{nodes_of};
 ghost use Rattle.msg_rounds.specs.Phases.{has_published};
 ghost use Rattle.msg_rounds.specs.Refusals.{is_offered, is_sender_idle};
 ghost use Rattle.leg_failure.specs.Views.{works};
-ghost use Rattle.cluster_model.specs.Guards.{refused_by, found_or, no_leg};
+ghost use Rattle.cluster_model.specs.Guards.{refused_by, found_or};
 ghost use Rattle.cluster_model.specs.Phases.{copy_word, copy_is, is_none, is_held, is_window, is_buffer, has_lock};
 ghost use Rattle.cluster_model.specs.Phases.{recovery_word, recovery_is, is_open, addition_is, is_unclean, offers, sender_is};
 ghost use Rattle.cluster_model.specs.Passes.{not_offering_to_leave, open_window};
@@ -287,18 +287,6 @@ pub fn check_found_copied(core: &CoreState, n: NodeId) -> Result<(), Refusal>
     match looks::needed(core, n) {
         None => Ok(()),
         Some(c) => Err(Refusal::Needed(c)),
-    }
-}
-
-/// Refuses a leg that there isn't.
-pub fn check_leg(core: &CoreState, l: LegId) -> Result<(), Refusal>
-    ensures judged { Judges result (no_leg (core_of core.now) l) }
-    ensures eight { OnOk result (l < 8) }
-{
-    if l < core.identity.geometry.legs() {
-        Ok(())
-    } else {
-        Err(Refusal::NoLeg(l))
     }
 }
 

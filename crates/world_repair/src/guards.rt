@@ -67,7 +67,7 @@ pub fn may_pass_again(core: &CoreState, n: NodeId, l: LegId) -> Result<(), Refus
     core.check_node(n)?;
     core.check_unfenced(n)?;
     core.check_live(n)?;
-    checks::check_leg(core, l)?;
+    core.check_leg(l)?;
     core.check_up(n)?;
     checks::check_held(core, n)?;
     checks::check_again_of(core, n, l)?;
@@ -97,7 +97,7 @@ pub fn may_copy_out(core: &CoreState, n: NodeId, l: LegId) -> Result<(), Refusal
     core.check_node(n)?;
     core.check_unfenced(n)?;
     core.check_live(n)?;
-    checks::check_leg(core, l)?;
+    core.check_leg(l)?;
     core.check_up(n)?;
     checks::check_buffer(core, n)?;
     core.check_target(n, l)?;
@@ -157,7 +157,7 @@ pub fn may_slot_in(core: &CoreState, n: NodeId, p: PageNo, l: LegId) -> Result<(
     core.check_node(n)?;
     core.check_unfenced(n)?;
     core.check_live(n)?;
-    checks::check_leg(core, l)?;
+    core.check_leg(l)?;
     core.check_up(n)?;
     checks::check_recovers(core, n)?;
     core.check_page(p)?;
@@ -172,7 +172,7 @@ pub fn may_slot_out(core: &CoreState, n: NodeId, p: PageNo, l: LegId) -> Result<
     core.check_node(n)?;
     core.check_unfenced(n)?;
     core.check_live(n)?;
-    checks::check_leg(core, l)?;
+    core.check_leg(l)?;
     core.check_up(n)?;
     checks::check_recovers(core, n)?;
     core.check_page(p)?;

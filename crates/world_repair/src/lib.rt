@@ -11,10 +11,11 @@ mod copying;
 mod failing;
 mod gathering;
 mod guards;
-mod looks;
+pub mod looks;
 mod passes;
 mod recovering;
 
+pub use checks::check_heir;
 pub use copying::{copy_in, copy_out, settle};
 pub use gathering::gather;
 pub use guards::{

@@ -59,8 +59,8 @@ pub fn may_grant(core: &CoreState, res: Res) -> Result<(), Refusal>
     }
 }
 
-// Who waits for the resource first, and for which mode.
-fn asker(core: &CoreState, res: Res) -> Option<(NodeId, Mode)>
+/// Who waits for the resource first, and for which mode.
+pub fn asker(core: &CoreState, res: Res) -> Option<(NodeId, Mode)>
     ensures { result ≡ option_map (λ a. (a.node, a.mode)) (asker (core_of core.now) res) }
 {
     match res {

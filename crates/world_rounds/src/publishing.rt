@@ -69,7 +69,8 @@ fn is_unwritten(offer: &Offer, l: LegId) -> bool
     matches!(offer.roles.of(l), Role::Working | Role::Rebuilding) && !has_leg(offer.written, l)
 }
 
-fn unwritten_leg(offer: &Offer) -> Option<LegId>
+/// The first leg that the proposed roles want written and that doesn't have the superblock.
+pub fn unwritten_leg(offer: &Offer) -> Option<LegId>
     ensures { result ≡ unwritten_leg (offer_of offer.now) }
 {
     for l in 0..8 {

@@ -1,5 +1,5 @@
 // Guards that several rows have.
-ghost use Rattle.std.specs.Prelude.{◌≡◌, ◌<◌, not};
+ghost use Rattle.std.specs.Prelude.{◌≡◌, ◌<◌, not, OnOk};
 ghost use Rattle.dlm_modes.specs.Guards.{unless};
 ghost use Rattle.mdc_types.specs.Geometry.{nodes_of};
 ghost use Rattle.mdc_types.specs.Roles.{state_word};
@@ -134,9 +134,10 @@ impl CoreState {
         check(is_idle, Refusal::ReceiverBusy(self.receiver(n).phase()))
     }
 
-    /// Refuses a leg that there isn't.
+    /// Refuses a leg that there isn't: the legs are below 8.
     pub fn check_leg(&self, l: LegId) -> Result<(), Refusal>
-        ensures { Judges result (no_leg (core_of self.now) l) }
+        ensures judged { Judges result (no_leg (core_of self.now) l) }
+        ensures below { OnOk result (l < 8) }
     {
         check(l < self.identity.geometry.legs(), Refusal::NoLeg(l))
     }

@@ -20,8 +20,8 @@ fn write_leg<L: LegDev>(legs: &mut Vec<L>, l: usize, at: u32, value: &Sector) ->
     leg.write(at, value)
 }
 
-// Reads a sector from one leg of several.
-fn read_leg<L: LegDev>(legs: &mut Vec<L>, l: usize, at: u32) -> Result<Sector, Failed>
+/// Reads a sector from one leg of several, over no node's path.
+pub fn read_leg<L: LegDev>(legs: &mut Vec<L>, l: usize, at: u32) -> Result<Sector, Failed>
     requires there { l < length legs.old.items }
     requires within { at < get_or (map L.size legs.old.items) l 0 }
     ensures { Received false l at result

@@ -14,7 +14,7 @@ mod state;
 
 pub use attempt::Attempt;
 pub use checks::check;
-pub use legs::{receive, send};
+pub use legs::{read_leg, receive, send};
 pub use offer::Offer;
 pub use sets::{fresh_targets, rebuilding_of};
 pub use state::CoreState;

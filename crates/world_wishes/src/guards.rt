@@ -1,12 +1,12 @@
 // What a wish may ask of the node that offers it.
-ghost use Rattle.std.specs.Prelude.{◌≡◌, ◌<◌, ◌==◌, ◌&&◌, ◌^◌, not, OnOk};
+ghost use Rattle.std.specs.Prelude.{◌≡◌, ◌<◌, ◌==◌, ◌&&◌, ◌^◌, not};
 ghost use Rattle.dlm_modes.specs.Guards.{unless};
 ghost use Rattle.mdc_types.specs.Geometry.{nodes_of};
 ghost use Rattle.mdc_types.specs.Roles.{is_faulty};
 ghost use Rattle.disk_addition.specs.Wishes.{HasLeg};
 ghost use Rattle.node_member.specs.Members.{first_pending};
 ghost use Rattle.cluster_model.specs.State.{sizes};
-ghost use Rattle.cluster_model.specs.Guards.{refused_by, no_leg};
+ghost use Rattle.cluster_model.specs.Guards.{refused_by};
 ghost use Rattle.leg_failure.specs.Views.{view_of};
 ghost use Rattle.cluster_model.specs.Phases.{copy_is, has_pass, is_none as is_none_word};
 ghost use Rattle.cluster_model.specs.Wishes.{loaded_offers, no_events, meta_needed, holds_device_lock, unsuited, path_cut, other_faulty, has_copied, is_window, may_grow};
@@ -17,18 +17,6 @@ use dlm_modes::Mode;
 use leg_failure::View;
 use mdc_types::{Geometry, LegId, NodeId, NodeState, Part, Range, Refusal, Res, Role, Wish, Word};
 use world_state::{CoreState, check};
-
-/// Refuses a leg that there isn't: the legs are below 8.
-pub fn check_leg(core: &CoreState, l: LegId) -> Result<(), Refusal>
-    ensures judges { Judges result (no_leg (core_of core.now) l) }
-    ensures below { OnOk result (l < 8) }
-{
-    if l < core.identity.geometry.legs() {
-        Ok(())
-    } else {
-        Err(Refusal::NoLeg(l))
-    }
-}
 
 /// A loaded node may only offer `meta`.
 pub fn check_loaded(core: &CoreState, n: NodeId, wish: &Wish) -> Result<(), Refusal>
@@ -67,7 +55,8 @@ pub fn check_needed(core: &CoreState, n: NodeId) -> Result<(), Refusal>
     check(meta_needed(core, n), Refusal::NotNeeded)
 }
 
-fn holds_device_lock(core: &CoreState, n: NodeId) -> bool
+/// Whether the node holds EX on `no-new-dev`.
+pub fn holds_device_lock(core: &CoreState, n: NodeId) -> bool
     requires { n < nodes_of core.now.identity.geometry }
     ensures { result ≡ holds_device_lock (core_of core.now) n }
 {

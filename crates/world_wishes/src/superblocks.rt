@@ -12,7 +12,6 @@ ghost use Rattle.world_state.specs.Kept.{core_of, Judges};
 ghost use Rattle.world_state.specs.Ready.{Ready};
 ghost use Rattle.world_state.specs.Told.{Carries, Fits, seen_of};
 
-use crate::guards::check_leg;
 use crate::offering::is_metadata;
 use leg_store::LegDev;
 use md_superblock::ArrayState;
@@ -51,7 +50,7 @@ pub fn may_write_super(core: &CoreState, n: NodeId, l: LegId) -> Result<(), Refu
     core.check_node(n)?;
     core.check_unfenced(n)?;
     core.check_live(n)?;
-    check_leg(core, l)?;
+    core.check_leg(l)?;
     let has_offered = matches!(core.sender(n).sender_phase(), SenderPhase::Offered);
     core.check_sender(n, has_offered && offers_metadata(core, n))?;
     check(proposes(core, n, l), Refusal::NotTarget(l))

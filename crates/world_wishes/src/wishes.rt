@@ -23,7 +23,7 @@ fn may_spare(core: &CoreState, n: NodeId, l: LegId) -> Result<(), Refusal>
     ensures { Judges result (first_of (wish_guards (core_of core.now) n (Wish.Spare l))) }
 {
     core.check_acked(n)?;
-    guards::check_leg(core, l)?;
+    core.check_leg(l)?;
     guards::check_suited(core, n, &Wish::Spare(l))?;
     guards::check_events(core)
 }
@@ -33,7 +33,7 @@ fn may_rebuild(core: &CoreState, n: NodeId, l: LegId) -> Result<(), Refusal>
     ensures { Judges result (first_of (wish_guards (core_of core.now) n (Wish.Rebuild l))) }
 {
     core.check_acked(n)?;
-    guards::check_leg(core, l)?;
+    core.check_leg(l)?;
     guards::check_suited(core, n, &Wish::Rebuild(l))?;
     guards::check_events(core)
 }
@@ -43,7 +43,7 @@ fn may_work(core: &CoreState, n: NodeId, l: LegId) -> Result<(), Refusal>
     ensures { Judges result (first_of (wish_guards (core_of core.now) n (Wish.Work l))) }
 {
     core.check_acked(n)?;
-    guards::check_leg(core, l)?;
+    core.check_leg(l)?;
     guards::check_recovered(core)?;
     guards::check_suited(core, n, &Wish::Work(l))?;
     guards::check_others(core, n, l)?;
@@ -66,7 +66,7 @@ fn may_new_disk(core: &CoreState, n: NodeId, l: LegId) -> Result<(), Refusal>
     ensures { Judges result (first_of (wish_guards (core_of core.now) n (Wish.NewDisk l))) }
 {
     core.check_acked(n)?;
-    guards::check_leg(core, l)?;
+    core.check_leg(l)?;
     guards::check_suited(core, n, &Wish::NewDisk(l))?;
     guards::check_path(core, n, l)
 }
@@ -76,7 +76,7 @@ fn may_remove(core: &CoreState, n: NodeId, l: LegId) -> Result<(), Refusal>
     ensures { Judges result (first_of (wish_guards (core_of core.now) n (Wish.Remove l))) }
 {
     core.check_acked(n)?;
-    guards::check_leg(core, l)?;
+    core.check_leg(l)?;
     guards::check_suited(core, n, &Wish::Remove(l))
 }
 
@@ -85,7 +85,7 @@ fn may_readd(core: &CoreState, n: NodeId, l: LegId) -> Result<(), Refusal>
     ensures { Judges result (first_of (wish_guards (core_of core.now) n (Wish.ReAdd l))) }
 {
     core.check_acked(n)?;
-    guards::check_leg(core, l)?;
+    core.check_leg(l)?;
     guards::check_suited(core, n, &Wish::ReAdd(l))?;
     guards::check_path(core, n, l)
 }
