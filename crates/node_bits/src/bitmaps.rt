@@ -9,6 +9,7 @@ ghost use Rattle.node_bitmaps.specs.Bitmap.{first_set, first_needed, first_neede
 ghost use Rattle.node_bitmaps.specs.Map.{bitmap_of, chunks_in};
 ghost use Rattle.node_bits.specs.Bitmaps.{bitmaps_of, map_at, opened, AreNew};
 
+use map_index::IndexedMap;
 use mdc_types::{ChunkNo, ChunkSet, Geometry, LegId, NodeId, PageNo, Sector};
 use node_bitmaps::NodeMap;
 use slot_pages::page_of_flags;
@@ -22,7 +23,7 @@ use std::marker::Model;
 #[derive(Drop)]
 pub struct Bitmaps {
     geometry: Geometry,
-    maps: Vec<NodeMap>,
+    maps: Vec<IndexedMap>,
 }
 
 impl Model for Bitmaps {
@@ -36,35 +37,14 @@ impl Model for Bitmaps {
 }
 
 // Sixteen empty maps.
-fn new_maps(alloc: Global, g: &Geometry) -> Result<Vec<NodeMap>, AllocError>
+fn new_maps(alloc: Global, g: &Geometry) -> Result<Vec<IndexedMap>, AllocError>
     ensures { IfOk result (λ maps. AreNew g.now 16 maps.items) }
 {
     let mut maps = Vec::with_capacity(alloc, 16)?;
     for _ in 0..16u8 {
-        maps.push(NodeMap::new(alloc, g)?)?;
+        maps.push(IndexedMap::new(alloc, g)?)?;
     }
     Ok(maps)
-}
-
-// The chunk is in the set and isn't to be copied.
-fn is_settled(map: &NodeMap, c: ChunkNo) -> bool
-    requires { c < chunks_in map.now }
-    ensures { let bits = bitmap_of map.now in result ≡ (bits.set c && not (bits.need c)) }
-{
-    map.has(c) && !map.needs(c)
-}
-
-// The first such chunk from `from` on.
-fn first_settled(map: &NodeMap, from: ChunkNo) -> Option<ChunkNo>
-    ensures { let bits = bitmap_of map.now in
-        result ≡ first_such (λ k. bits.set k && not (bits.need k)) from (chunks_in map.now - from) }
-{
-    for c in from..map.chunks() {
-        if is_settled(map, c) {
-            return Some(c);
-        }
-    }
-    None
 }
 
 impl Bitmaps {
@@ -85,7 +65,7 @@ impl Bitmaps {
         ensures map { result.now ≡ map_at self.now.maps n }
         ensures chunks { length result.now.set ≡ chunks_of self.now.sizes }
     {
-        &self.maps[n as usize]
+        self.maps[n as usize].map()
     }
 
     /// Whether the chunk is in the node's set.
@@ -94,7 +74,7 @@ impl Bitmaps {
         requires chunk { c < chunks_of self.now.sizes }
         ensures { result ≡ (bitmaps_of self.now n).set c }
     {
-        self.maps[n as usize].has(c)
+        self.maps[n as usize].map().has(c)
     }
 
     /// Whether the chunk is to be copied.
@@ -103,7 +83,7 @@ impl Bitmaps {
         requires chunk { c < chunks_of self.now.sizes }
         ensures { result ≡ (bitmaps_of self.now n).need c }
     {
-        self.maps[n as usize].needs(c)
+        self.maps[n as usize].map().needs(c)
     }
 
     /// The number of live writes that the node has in the chunk.
@@ -112,7 +92,7 @@ impl Bitmaps {
         requires chunk { c < chunks_of self.now.sizes }
         ensures { result ≡ (bitmaps_of self.now n).writes c }
     {
-        self.maps[n as usize].writes(c)
+        self.maps[n as usize].map().writes(c)
     }
 
     /// The first chunk of the node's set.
@@ -129,7 +109,7 @@ impl Bitmaps {
         ensures { let bits = bitmaps_of self.now n in result ≡ first_such
             (λ k. bits.set k && not (bits.need k)) c (chunks_of self.now.sizes - c) }
     {
-        first_settled(&self.maps[n as usize], c)
+        self.maps[n as usize].first_settled_from(c)
     }
 
     /// The first chunk that is to be copied.
@@ -147,7 +127,7 @@ impl Bitmaps {
         ensures { result ≡ first_needed_of self.now.sizes (bitmaps_of self.now n)
             (λ c. get_or chunks.now c false) }
     {
-        self.maps[n as usize].first_needed_of(chunks)
+        self.maps[n as usize].map().first_needed_of(chunks)
     }
 
     /// The least of the legs where a page of the slot isn't fresh.
@@ -155,7 +135,7 @@ impl Bitmaps {
         requires { n < 16 }
         ensures { result ≡ old_target self.now.sizes (bitmaps_of self.now n) (has_bit targets) }
     {
-        self.maps[n as usize].old_target(targets)
+        self.maps[n as usize].map().old_target(targets)
     }
 
     /// The first page of the slot that isn't fresh on one of the legs, and the least such leg.
@@ -163,7 +143,7 @@ impl Bitmaps {
         requires { n < 16 }
         ensures { result ≡ first_old self.now.sizes (bitmaps_of self.now n) (has_bit targets) }
     {
-        self.maps[n as usize].first_old(targets)
+        self.maps[n as usize].map().first_old(targets)
     }
 
     /// The first page with a chunk of the node's set that has no mark on one of the legs, and the
@@ -182,7 +162,7 @@ impl Bitmaps {
         requires chunk { c < chunks_of self.now.sizes }
         ensures { result ≡ unmarked_target (bitmaps_of self.now n) (has_bit targets) c }
     {
-        self.maps[n as usize].unmarked_target(targets, c)
+        self.maps[n as usize].map().unmarked_target(targets, c)
     }
 
     /// The least of the legs where one of these chunks is in the set without a mark.
@@ -193,7 +173,9 @@ impl Bitmaps {
             (has_bit targets)
             (λ c. get_or chunks.now c false) }
     {
-        self.maps[n as usize].unmarked_target_of(targets, chunks)
+        self.maps[n as usize]
+            .map()
+            .unmarked_target_of(targets, chunks)
     }
 
     /// Page `p` of the node's slot, by its set, for an array of this uuid.
@@ -205,7 +187,7 @@ impl Bitmaps {
               (bitmaps_of self.now n).set;
         } }
     {
-        page_of_flags(&self.geometry, uuid, p, &self.maps[n as usize])
+        page_of_flags(&self.geometry, uuid, p, self.maps[n as usize].map())
     }
 
     /// Makes `into` the set of the chunks to be copied.
@@ -215,7 +197,7 @@ impl Bitmaps {
         ensures chunks { length into.new ≡ length into.old }
         ensures needed { (λ c. get_or into.new c false) ≡ (bitmaps_of self.now n).need }
     {
-        self.maps[n as usize].needed_into(into);
+        self.maps[n as usize].map().needed_into(into);
     }
 
     /// The chunk is put into the node's set.
