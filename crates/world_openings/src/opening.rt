@@ -131,6 +131,43 @@ impl Opening {
         })
     }
 
+    /// The opening that images have: nobody is a member. `pending` has one bit for each node whose slot
+    /// is pending, `roles` and `events` are those of the superblocks, and `base` has for each data sector
+    /// the values that the working legs have there.
+    pub fn of_images(
+        geometry: Geometry,
+        name: [u8; 32],
+        uuid: [u8; 16],
+        pending: u16,
+        roles: Roles,
+        events: u64,
+        base: Vec<Vec<Sector>>,
+    ) -> Opening
+        ensures { result ≡ record {
+          sizes = geometry;
+          name = name;
+          uuid = uuid;
+          members = 0;
+          pending = pending;
+          warm = false;
+          roles = roles;
+          events = events;
+          base = map (λ values. values.items) base.items;
+        } }
+    {
+        Opening {
+            geometry,
+            name,
+            uuid,
+            members: 0,
+            pending,
+            warm: false,
+            roles,
+            events,
+            base,
+        }
+    }
+
     /// For each data sector, the values that the working legs may have there.
     pub fn base(&self) -> &[Vec<Sector>]
         ensures { map (λ values. values.items) result.now ≡ self.now.base }
