@@ -5,4 +5,5 @@ mod apply;
 mod promises;
 mod world;
 
+pub use apply::may;
 pub use world::{NoWorld, StepEnd, TRACE_LIMIT, World};

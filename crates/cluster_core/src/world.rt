@@ -1,4 +1,5 @@
-ghost use Rattle.std.specs.Prelude.{◌≡◌, ◌<◌, ◌≤◌, ◌-◌, ◌^◌, ◌⊎◌, ◌↔◌, [], ◌∷◌, ℕ, true, None, Some, Ok, Err, min, map, reverse, length, get_or, IfOk, IfErr, IsErr, IsOk, OnOk, OnErr, IsErrOf};
+ghost use Rattle.std.specs.Prelude.{◌≡◌, ◌<◌, ◌≤◌, ◌-◌, ◌^◌, ◌⊎◌, ◌↔◌, [], ◌∷◌, ℕ, true, false, None, Some, Ok, Err, min, map, reverse, length, get_or, IfOk, IfErr, IsErr, IsOk, OnOk, OnErr, IsErrOf};
+ghost use Rattle.mdc_types.specs.Geometry.{length_of};
 ghost use Rattle.mdc_types.specs.declared.refusals.Refusal.{Refusal};
 ghost use Rattle.mdc_types.specs.declared.roles.NodeState.TheVariants.{Out};
 ghost use Rattle.cluster_model.specs.Opening.{IsOrigin, core_at};
@@ -7,7 +8,8 @@ ghost use Rattle.cluster_model.specs.Table.{refusal};
 ghost use Rattle.cluster_model.specs.Run.{entry};
 ghost use Rattle.node_bits.specs.Bitmaps.{map_at};
 ghost use Rattle.world_state.specs.Kept.{core_of, no_parts};
-ghost use Rattle.world_state.specs.Told.{Fits, Carries, legs_of, seen_of as legs_seen};
+ghost use Rattle.world_state.specs.Ready.{Ready};
+ghost use Rattle.world_state.specs.Told.{Fits, Carries, Received, legs_of, seen_of as legs_seen};
 ghost use Rattle.cluster_core.specs.World.{Reachable, trace_limit};
 ghost use Rattle.cluster_core.specs.Promises.{KeepsPromises};
 
@@ -15,13 +17,15 @@ use crate::apply::{apply, may};
 use laws_rounds::told_rounds_go_on;
 use leg_failure::View;
 use leg_store::LegDev;
-use mdc_types::{Entry, Event, Geometry, NodeId, NodeState, Outcome, Refusal};
+use mdc_types::{
+    Entry, Event, Failed, Geometry, LegId, NodeId, NodeState, Outcome, Refusal, Sector,
+};
 use node_bitmaps::NodeMap;
 use node_member::Record;
 use std::alloc::{AllocError, Global};
 use std::marker::Model;
 use world_openings::{Opening, open_state};
-use world_state::CoreState;
+use world_state::{CoreState, read_leg};
 
 /// The most entries of a trace.
 pub const TRACE_LIMIT: usize = 65_536;
@@ -131,6 +135,23 @@ impl<L: LegDev> World<L> {
         self.trace.as_slice()
     }
 
+    /// The state without the legs, for those who choose what to do next: it has what every place of
+    /// every run has.
+    pub fn core(&self) -> &CoreState
+        ensures kept { result.now ≡ self.now.kept }
+        ensures ready { Ready (core_of result.now) }
+    {
+        told_rounds_go_on();
+        &self.core
+    }
+
+    /// The first guard of the event that fails, if one does.
+    pub fn refusal(&self, e: &Event) -> Option<Refusal>
+        ensures { result ≡ refusal (core_of self.now.kept) e.now }
+    {
+        may(self.core(), e).err()
+    }
+
     /// The sizes of the array.
     pub fn geometry(&self) -> Geometry
         ensures { result ≡ self.now.kept.identity.geometry }
@@ -167,6 +188,17 @@ impl<L: LegDev> World<L> {
         ensures { result.now ≡ self.now.kept.members }
     {
         &self.core.members
+    }
+
+    /// Reads the sector `at` of leg `l`, over no node's path: a transfer of that leg, which counts as one.
+    /// The world stays as it is.
+    pub fn look(&mut self, l: LegId, at: u32) -> Result<Sector, Failed>
+        requires leg { l < self.old.kept.identity.geometry.legs }
+        requires within { at < length_of self.old.kept.identity.geometry }
+        ensures read { Received false l at result self.old.legs self.new.legs }
+        ensures same { self.new ≡ record self.old { legs = self.new.legs } }
+    {
+        read_leg(&mut self.legs, l as usize, at)
     }
 
     /// A run from a state that belongs to the opening led to where the world is.
