@@ -2,9 +2,11 @@
 """Wrong rows of the machine, as the laws see them. A law must refuse each: `docs/PROOFS.md` has
 the table.
 
-No part of `rt ci`. It works on a copy of the repository, beside it, and prints for each edit of
-mutants/CRATE the facts that it breaks. The crates below CRATE must be proved. `run.py NAME..` does
-these edits alone.
+No part of `rt ci`. For each folder mutants/CRATE it makes, in a copy of the repository beside
+it, one crate of the files that show that each way keeps what CRATE's laws know, with the definitions
+and the lemmas that they cite; the rows themselves stay away, since they would be refused first. Each
+edit of the folder becomes a must-fail edit of that crate, and `rt must-fail` says which lemma fails
+first. The crates below CRATE, and CRATE, must be proved. `run.py NAME..` does these edits alone.
 """
 import os
 import re
@@ -12,124 +14,118 @@ import shutil
 import subprocess
 import sys
 import tempfile
+from functools import cache
 from pathlib import Path
 
 TOP = Path(__file__).resolve().parent.parent
 
-# of a crate in which edits are made for the crates above it, the files that say what the rows do
-ROWS = {"storage_ways": ["Parts", "Sound", "Ways", "Roled"]}
-# of a crate whose facts are wanted, the files that show that each way keeps them; else all
-WANTED = {"laws_recovery": ["Step"], "laws_pending": ["Step", "Line"]}
+# by the crate whose laws must refuse an edit, and the crate that it is made in: the files that show
+# that each way keeps the facts
+WANTED = {
+    ("laws_roles", "laws_roles"): ["NumberSteps", "LateSteps", "SizeSteps", "AdditionSteps",
+                                   "SourceSteps"],
+    ("laws_writes", "storage_ways"): ["BitSteps", "WindowSteps", "ContentSteps", "PageSteps",
+                                      "AgainSteps", "ReadNeedSteps"],
+    ("laws_recovery", "storage_ways"): ["Step"],
+    ("laws_pending", "storage_ways"): ["Step", "Line"],
+    ("laws_pending", "cluster_model"): ["FirstLeg"],
+}
+WORD = re.compile(r"Rattle\.(\w+)\.(specs|proofs)\.(\w+)")
+
+# a crate, its specs or proofs, and one of these files
+File = tuple[str, str, str]
 
 
-def lines_of(edit: Path) -> list[list[str]]:
-    return [line.split(": ", 1) for line in edit.read_text().splitlines() if line]
-
-
-def applied(crate: Path, edit: Path) -> list[tuple[Path, str]]:
-    """Applies an edit, which has the form of a must-fail edit; `\\n` ends a line there. Tells the
-    files and what they had."""
-    were = []
-    for key, text in lines_of(edit):
-        text = text.replace("\\n", "\n")
-        if key == "file":
-            path = crate / text
-            were.append((path, path.read_text()))
-        elif key == "old":
-            old = text
-            assert path.read_text().count(old) == 1, f"{edit.name}: not once in {path.name}"
-        elif key == "new":
-            path.write_text(path.read_text().replace(old, text))
-    return were
-
-
-def named(proofs: Path) -> list[str]:
-    """The files that a crate's proofs name."""
-    lib = proofs / "Lib.antt"
-    return lib.read_text().split()[2::3] if lib.exists() else []
-
-
-def cites(file: Path) -> set[tuple[str, str]]:
-    """The files that a file of proofs cites, each with its crate."""
-    return set(re.findall(r"^use Rattle\.(\w+)\.proofs\.(\w+)", file.read_text(), re.M))
-
-
-def chain(name: str, edited: str) -> list[str]:
-    """The crates from the edited one up to the named one."""
+def uses() -> dict[str, list[str]]:
+    """By crate the libraries that it stands on."""
     lines = [line.split(":") for line in (TOP / "crates.txt").read_text().splitlines() if ":" in line]
-    uses = {head.split()[0]: rest.split() for head, rest in lines}
-    between = [c for c in uses[name] if edited in uses[c]]
-    return [edited, *sorted(between, key=lambda c: len(uses[c])), name]
+    return {head.split()[0]: rest.split() for head, rest in lines}
 
 
-def cut(crates: Path, names: list[str], only: list[str]) -> None:
-    """Leaves in these crates only what says what the rows do, what follows from that, and of this
-    what the wanted files of the last one cite."""
-    edited, name = names[0], names[-1]
-    every = {(c, f): cites(crates / c / "proofs" / f"{f}.antt")
-             for c in names for f in named(crates / c / "proofs")}
-    gone = {(edited, f) for c, f in every if c == edited and f not in ROWS.get(edited, [f])}
-    while lost := {f for f in every if f not in gone and every[f] & gone}:
-        gone |= lost
-    kept = [(name, f) for f in only] or [f for f in every if f[0] == name and f not in gone]
-    for file in kept:
-        kept += [f for f in every[file] if f in every and f not in kept]
-    for crate in names:
-        proofs = crates / crate / "proofs"
-        files = [f for f in named(proofs) if (crate, f) in kept]
-        for file in proofs.glob("*.antt"):
-            if file.stem not in files:
-                file.unlink()
-        (proofs / "Lib.antt").write_text("".join(f"pub mod {f}\n" for f in files))
-        (crates / crate / "src" / "lib.rt").write_text("//! The laws without runs.\n#![tactic(auto)]\n")
-        for folder in proofs.iterdir():
-            if folder.is_dir():
-                shutil.rmtree(folder)
+def path_of(file: File) -> Path:
+    return TOP / "crates" / file[0] / file[1] / f"{file[2]}.antt"
 
 
-def broken(crate: Path) -> list[str]:
-    """The facts that aren't kept any more, and the lemmas that fail for them."""
-    check = ["nice", "-n", "5", "rt", "check", "--jobs", "1", "--allow-holes"]
-    out = subprocess.run(check, cwd=crate, capture_output=True, text=True)
-    return re.findall(r"proofs/\w+\.antt:\S+ error: `(\w+)`:", out.stdout + out.stderr)
+@cache
+def cites(file: File) -> list[File]:
+    """The files that a file cites."""
+    lines = re.findall(r"^(?:pub )?use .*", path_of(file).read_text(), re.M)
+    found = {word for line in lines for word in WORD.findall(line)}
+    return sorted(it for it in found if path_of(it).exists())
 
 
-def copied(work: Path, names: list[str], only: list[str]) -> Path:
-    """A copy of the repository, in which these crates are cut."""
-    copy = work / names[-1]
-    # what is kept of the proofs below is large: linked, not copied
-    skip = shutil.ignore_patterns(*names, ".git", "mutants")
-    shutil.copytree(TOP, copy, copy_function=os.link, ignore=skip)
-    for own in names:
-        shutil.copytree(TOP / "crates" / own, copy / "crates" / own)
-    if len(names) > 1:
-        cut(copy / "crates", names, only)
-    return copy / "crates"
+def lines_of(edit: Path) -> dict[str, str]:
+    """What an edit says: its file, old text and new text, where `\\n` ends a line."""
+    lines = [line.split(": ", 1) for line in edit.read_text().splitlines() if line]
+    return {key: text.replace("\\n", "\n") for key, text in lines}
 
 
-def ways_of(edit: Path) -> tuple[tuple[str, ...], tuple[str, ...]]:
-    """The crates from the one that the edit is made in to the one that must refuse it, and the files
-    of the latter that are wanted: a line `only: FILE..` names them."""
-    keys = dict(lines_of(edit))
-    name = edit.parent.name
-    found = re.match(r"\.\./(\w+)/", keys["file"])
-    only = keys["only"].split() if "only" in keys else WANTED.get(name, [])
-    return tuple(chain(name, found[1]) if found else [name]), tuple(only)
+def edited(edit: Path) -> File:
+    """The file that the edit is made in."""
+    found = re.fullmatch(r"(?:\.\./(\w+)/)?(specs|proofs)/(\w+)\.antt", lines_of(edit)["file"])
+    return (found[1] or edit.parent.name, found[2], found[3])
+
+
+def gathered(name: str, changed: set[File]) -> list[File]:
+    """The wanted files of the crate, and of all that they cite what stands on a changed file."""
+
+    @cache
+    def depends(file: File) -> bool:
+        return file in changed or any([depends(it) for it in cites(file)])
+
+    files = [(name, "proofs", file) for where in {it[0] for it in changed} for file in WANTED[name, where]]
+    for file in files:
+        files += [it for it in cites(file) if it not in files and depends(it)]
+    return files
+
+
+def name_of(file: File) -> str:
+    return f"{file[0]}_{file[2]}" if file[1] == "proofs" else f"{file[0]}_specs_{file[2]}"
+
+
+def crate_of(copy: Path, name: str, where: str, edits: list[Path]) -> str:
+    """Makes the crate in which these edits of the folder are tried, and gives its name."""
+    made = f"wrong_{where}_of_{name}"
+    files = gathered(name, {edited(edit) for edit in edits})
+    texts = {file: path_of(file).read_text() for file in files}
+    folder = copy / "crates" / made
+    for part in ["src", "proofs", "must-fail"]:
+        (folder / part).mkdir(parents=True)
+    for number, edit in enumerate(edits):
+        said, at = lines_of(edit), edited(edit)
+        assert texts[at].count(said["old"]) == 1, f"{edit.name}: not once in {at[2]}"
+        # each line that changes gets a mark, so that it stands there once
+        pairs, marked = "", []
+        for i, (old, new) in enumerate(zip(said["old"].split("\n"), said["new"].split("\n"), strict=True)):
+            marked.append(f"{old}  -- {number}.{i}" if old != new else old)
+            pairs += f"old: {marked[-1]}\nnew: {new}\n" if old != new else ""
+        texts[at] = texts[at].replace(said["old"], "\n".join(marked))
+        (folder / "must-fail" / edit.name).write_text(f"file: proofs/{name_of(at)}.antt\n{pairs}")
+    for file, text in texts.items():
+        here = lambda it: f"Rattle.{made}.proofs.{name_of(it.groups())}" if it.groups() in texts else it[0]
+        (folder / "proofs" / f"{name_of(file)}.antt").write_text(WORD.sub(here, text))
+    (folder / "proofs" / "Lib.antt").write_text("".join(f"pub mod {name_of(it)}\n" for it in files))
+    (folder / "src" / "lib.rt").write_text("//! What each way keeps.\n#![tactic(auto)]\n")
+    with open(copy / "crates.txt", "a") as it:
+        it.write(f"{made}: {' '.join([*uses()[name], name])}\n")
+    return made
 
 
 def main() -> None:
+    chosen = [e for e in sorted(TOP.glob("mutants/*/*.edit")) if e.stem in (sys.argv[1:] or [e.stem])]
     work = Path(tempfile.mkdtemp(prefix="mutants.", dir=TOP.parent))
     try:
-        edits = [e for e in sorted(TOP.glob("mutants/*/*.edit")) if e.stem in (sys.argv[1:] or [e.stem])]
-        for names, only in sorted({ways_of(e) for e in edits}):
-            crates = copied(work, list(names), list(only))
-            for edit in [e for e in edits if ways_of(e) == (names, only)]:
-                were = applied(crates / names[-1], edit)
-                fails = next(([f"{c}: {', '.join(b)}"] for c in names if (b := broken(crates / c))), [])
-                print(f"{edit.stem}: breaks {''.join(fails) or 'nothing'}", flush=True)
-                for path, was in reversed(were):
-                    path.write_text(was)
-            shutil.rmtree(work / names[-1])
+        copy = work / "copy"
+        # what is kept of the proofs below is large: linked, not copied
+        (copy / "crates").mkdir(parents=True)
+        shutil.copytree(TOP / "crates", copy / "crates", copy_function=os.link, dirs_exist_ok=True)
+        for file in ["crates.txt", "HANDLES"]:
+            shutil.copy(TOP / file, copy / file)
+        groups: dict[tuple[str, str], list[Path]] = {}
+        for edit in chosen:
+            groups.setdefault((edit.parent.name, edited(edit)[0]), []).append(edit)
+        made = [crate_of(copy, *group, edits) for group, edits in groups.items()]
+        subprocess.run(["rt", "must-fail", *made], cwd=copy, check=False)
     finally:
         shutil.rmtree(work, ignore_errors=True)
 
