@@ -1,0 +1,3 @@
+pub mod GivenBack
+pub mod RowLaws
+pub mod Backs
