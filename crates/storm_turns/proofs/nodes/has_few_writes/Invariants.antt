@@ -1,0 +1,7 @@
+use Rattle.std.proofs.Common.{◌≡◌, ◌+◌, length}
+use Rattle.world_state.specs.Kept.{core_of}
+use Rattle.storm_turns.proofs.Flights.{writes_left}
+use Rattle.storm_turns.proofs.nodes.has_few_writes.Given as goal
+
+abbrev pub invariant-loop-seen : goal.invariant-loop-seen
+invariant-loop-seen l = length ((core_of l.core).writes l.n) ≡ l.seen + writes_left l.from ((core_of l.core).writes l.n)
