@@ -6,6 +6,7 @@ pub mod HexLaws
 pub mod ReadingLaws
 pub mod PlacesLaws
 pub mod GrammarLaws
+mod ImagesLaws
 mod LockLaws
 mod WireLaws
 pub mod InputLaws

@@ -10,6 +10,8 @@ use Rattle.script_text.specs.declared.faults.FaultKind.TheVariants as kinds
 use Rattle.script_text.specs.declared.faults.ScriptFault.{ScriptFault}
 use Rattle.script_text.specs.Judging.{◌>>=◌, at_line}
 use Rattle.script_text.specs.Lines.{lines_of, text_of, through_end, up_to_end, input_part, script_limit}
+use Rattle.script_text.specs.declared.script.Line.{Line}
+use Rattle.script_text.specs.Images.{images_header, images_in, images_judged}
 use Rattle.script_text.specs.Locks.{lock_line_of, locks_judged}
 use Rattle.script_text.specs.Wire.{WireValue, nodes_of, wire_line_of, with_nodes, wire_in, wire_judged}
 use Rattle.script_text.specs.declared.script.Start.{Start}
@@ -26,6 +28,7 @@ record Same (n room : ℕ) (xs ys : List (List ℕ)) : Type 0 where
   wire : wire_in n room xs ≡ wire_in n room ys
   setup : (first : Bool) (s : Setup) → setup_in first s n room xs ≡ setup_in first s n room ys
   script : script_in n room xs ≡ script_in n room ys
+  images : images_in n room xs ≡ images_in n room ys
 
 -- the same comes after a line
 bind_same : {A B E : Type 0} (r : Result A E) (f g : A → Result B E) → ((x : A) → f x ≡ g x) → (r >>= f) ≡ (r >>= g)
@@ -59,6 +62,7 @@ same_more n room line xs ys s =
       wire = header_same nodes_of n (said_by room line) _ _ _ _ s.wire (λ nodes. ap (with_nodes nodes) s.wire_body);
       setup = λ first t. setup_same first t n (said_by room line) _ _ _ _ s.setup (ap (with_lines t) body);
       script = header_same start_of n (said_by room line) _ _ _ _ s.script (λ start. s.setup true (new_setup start));
+      images = header_same images_header n (said_by room line) _ _ _ _ s.images (λ header. s.body);
     }
 
 -- there is no room for the line
@@ -81,6 +85,10 @@ wire_long : (n room : ℕ) (line : List ℕ) (xs : List (List ℕ)) → room < l
 wire_long n room line xs long =
     ap (λ said. header_then nodes_of n said (wire_in (n + 1) (room - length line) xs) (λ nodes. with_nodes nodes (body_of wire_line_of (n + 1) (room - length line) xs))) (said_long room line long)
 
+images_long : (n room : ℕ) (line : List ℕ) (xs : List (List ℕ)) → room < length line → images_in n room (line ∷ xs) ≡ at_line n (Err kinds.Long)
+images_long n room line xs long =
+    ap (λ said. header_then images_header n said (images_in (n + 1) (room - length line) xs) (λ header. body_of line_of (n + 1) (room - length line) xs)) (said_long room line long)
+
 same_long : (n room : ℕ) (a b : List ℕ) (xs ys : List (List ℕ)) → room < length a → room < length b → Same n room (a ∷ xs) (b ∷ ys)
 same_long n room a b xs ys long longer = record {
   body = body_long line_of n room a xs long ∙ sym (body_long line_of n room b ys longer);
@@ -89,6 +97,7 @@ same_long n room a b xs ys long longer = record {
   wire = wire_long n room a xs long ∙ sym (wire_long n room b ys longer);
   setup = λ first s. setup_long first s n room a xs long ∙ sym (setup_long first s n room b ys longer);
   script = script_long n room a xs long ∙ sym (script_long n room b ys longer);
+  images = images_long n room a xs long ∙ sym (images_long n room b ys longer);
 }
 
 -- after the line `end` nothing is judged
@@ -113,6 +122,12 @@ end_first n true text xs ys f g = refl
 end_first n false true xs ys f g = refl
 end_first n false false xs ys f g = refl
 
+end_images : (n : ℕ) (long text : Bool) (xs ys : Result (List Line) ScriptFault) (f g : Unit {0} → Result (List Line) ScriptFault)
+    → header_then images_header n (end_said long text) xs f ≡ header_then images_header n (end_said long text) ys g
+end_images n true text xs ys f g = refl
+end_images n false true xs ys f g = refl
+end_images n false false xs ys f g = refl
+
 end_wire : (n : ℕ) (long text : Bool) (xs ys : Result WireValue ScriptFault) (f g : ℕ → Result WireValue ScriptFault)
     → header_then nodes_of n (end_said long text) xs f ≡ header_then nodes_of n (end_said long text) ys g
 end_wire n true text xs ys f g = refl
@@ -131,10 +146,11 @@ same_end n room xs ys =
       wire = end_wire n long text _ _ _ _;
       setup = λ first s. end_setup first s n long text _ _ _ _ (ap (with_lines s) body);
       script = end_first n long text _ _ _ _;
+      images = end_images n long text _ _ _ _;
     }
 
 same_refl : (n room : ℕ) (xs : List (List ℕ)) → Same n room xs xs
-same_refl n room xs = record { body = refl; locks = refl; wire_body = refl; wire = refl; setup = λ first s. refl; script = refl }
+same_refl n room xs = record { body = refl; locks = refl; wire_body = refl; wire = refl; setup = λ first s. refl; script = refl; images = refl }
 
 is_end_line : (line : List ℕ) → bytes_eq line end_line ≡ true → line ≡ end_line
 is_end_line line is = grind (arith, bytes_eq-Decides line end_line)
@@ -274,6 +290,11 @@ pub part_judged : (bytes : List ℕ) → judged (input_part bytes) ≡ judged by
 part_judged bytes =
     (part_same bytes).script
     ∙ (ap (script_in 1 script_limit) (lines_taken (length bytes + 1) bytes (omega arith)) ∙ (same_through 1 script_limit (lines_of bytes)).script)
+
+pub part_images_judged : (bytes : List ℕ) → images_judged (input_part bytes) ≡ images_judged bytes
+part_images_judged bytes =
+    (part_same bytes).images
+    ∙ (ap (images_in 1 script_limit) (lines_taken (length bytes + 1) bytes (omega arith)) ∙ (same_through 1 script_limit (lines_of bytes)).images)
 
 pub part_locks_judged : (bytes : List ℕ) → locks_judged (input_part bytes) ≡ locks_judged bytes
 part_locks_judged bytes =

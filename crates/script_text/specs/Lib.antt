@@ -1,6 +1,7 @@
 pub mod Arguments
 pub mod Events
 pub mod Header
+pub mod Images
 pub mod Judging
 pub mod Lines
 pub mod Locks

@@ -14,7 +14,7 @@ use Rattle.script_text.specs.declared.faults.FaultKind.{FaultKind}
 use Rattle.script_text.specs.declared.faults.FaultKind.TheVariants as kinds
 use Rattle.script_text.specs.Judging.{◌>>=◌, at_line}
 use Rattle.script_text.specs.Lines.{lines_of, text_of, words_of, script_limit}
-use Rattle.script_text.specs.Arguments.{alone, one_byte, two_bytes}
+use Rattle.script_text.specs.Arguments.{alone, one_byte, one_number, two_bytes, two_numbers}
 use Rattle.script_text.specs.Events.{event_of}
 use Rattle.script_text.specs.Header.{Setup, start_of, is_setup, setup_line, with_line}
 
@@ -23,12 +23,18 @@ pub record ScriptValue : Type 0 where
   pub faults : List FaultLine
   pub lines : List Line
 
--- The lines of events and queries.
+-- The lines of events, of events that the program chooses, and of queries.
 
 abbrev pub event_line : List ℕ → List (List ℕ) → Result Line FaultKind
 event_line word args = do
   event ← event_of word args
   Ok (line_kinds.Event event)
+
+-- `storm SEED K`
+abbrev pub storm_line : List (List ℕ) → Result Line FaultKind
+storm_line args = do
+  x ← two_numbers args
+  Ok (line_kinds.Storm x.0 x.1)
 
 -- `slot L D`
 abbrev pub slot_line : List (List ℕ) → Result Line FaultKind
@@ -44,6 +50,9 @@ line_of word args =
     else if bytes_eq word (codes "map") then (one_byte args >>= λ n. Ok (line_kinds.Map n))
     else if bytes_eq word (codes "size") then (one_byte args >>= λ n. Ok (line_kinds.Size n))
     else if bytes_eq word (codes "slot") then slot_line args
+    else if bytes_eq word (codes "compare") then alone line_kinds.Compare args
+    else if bytes_eq word (codes "auto") then (one_number args >>= λ k. Ok (line_kinds.Auto k))
+    else if bytes_eq word (codes "storm") then storm_line args
     else event_line word args
 
 -- The whole script. Lines are counted from 1, and `room` is how many bytes more the script may have.

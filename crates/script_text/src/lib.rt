@@ -4,9 +4,13 @@
 //! one space. An empty line, and one that begins with `#`, are skipped. The first other line is the
 //! header, `array LEGS SECTORS CHUNK NODES`, `warm`, `array2` or `warm2` with the same numbers. Just
 //! after it a line `room R` may stand, and then lines `spare L` and `fault L T old|new`. Then come the
-//! lines of events, one form for each event of `mdc_types`, and the queries `view N`, `map N`,
-//! `slot L D`, `record`, `size N` and `check`. The line `end` ends the script, and what follows isn't
-//! judged. Up to the line feed of that line a script holds at most 16,777,216 bytes.
+//! lines of events, one form for each event of `mdc_types`, the lines `auto K` and `storm SEED K` of
+//! events that the program chooses, and the queries `view N`, `map N`, `slot L D`, `record`, `size N`,
+//! `check` and `compare`. The line `end` ends the script, and what follows isn't judged. Up to the line
+//! feed of that line a script holds at most 16,777,216 bytes.
+//!
+//! A script of images has the header `images` alone, and just after it the lines of events and queries.
+//! All else is as above.
 //!
 //! Numbers are decimal, without leading zeros, and have 32 bits; those of nodes and legs have 8. A
 //! value is `-`, which is empty, or 2 to 1,024 lower-case hexadecimal digits, an even number of them.
@@ -31,6 +35,7 @@ mod command;
 mod events;
 mod faults;
 mod header;
+mod images;
 mod input;
 mod lines;
 mod locks;
@@ -47,11 +52,13 @@ mod wire;
 
 pub use command::{Command, WordsEnd, read_words};
 pub use faults::{FaultKind, ScriptEnd, ScriptFault};
+pub use images::read_images;
 pub use input::{InputEnd, read_input};
 pub use locks::{LockLine, LockScript, read_locks};
 pub use memory::{MemSink, MemSource};
+pub use numbers::{byte, number, put_hex};
 pub use reading::{part_is_judged_as_all, read_script};
-pub use script::{FaultLine, Line, Script, Start};
+pub use script::{FaultLine, Line, Script, ScriptLines, Start};
 pub use sink::{Sink, write_all};
 pub use source::Source;
 pub use std_io::{StdSink, StdSource};

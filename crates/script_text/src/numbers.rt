@@ -9,8 +9,9 @@ use mdc_types::Sector;
 // Of a value.
 const MAX_DIGITS: usize = 1024;
 
-// A number of 32 bits, in decimal, without leading zeros.
-fn number(word: &str) -> Option<u32>
+/// The number that the word writes: decimal digits without leading zeros, and no sign. `None` where it
+/// writes none, or one of more than 32 bits.
+pub fn number(word: &str) -> Option<u32>
     ensures { result ≡ number_of word.now }
 {
     if word.starts_with('+') {
@@ -22,8 +23,8 @@ fn number(word: &str) -> Option<u32>
     word.parse().ok()
 }
 
-// The number of a node or a leg.
-fn byte(word: &str) -> Option<u8>
+/// The number of 8 bits that the word writes, as that of a node or a leg. `None` where it writes none.
+pub fn byte(word: &str) -> Option<u8>
     ensures { result ≡ byte_of word.now }
 {
     u8::try_from(number(word)?).ok()
@@ -40,8 +41,9 @@ fn hex_digit(digit: u8) -> Option<u8>
     }
 }
 
-// Puts the bytes that the digits write at the front. `None` where one is no digit.
-fn put_hex(bytes: &mut [u8], digits: &[u8]) -> Option<()>
+/// Puts the bytes that the digits write at the front, two digits `0` to `9` or `a` to `f` for each, the
+/// high one first. The other bytes stay. `None` where one is no such digit.
+pub fn put_hex(bytes: &mut [u8], digits: &[u8]) -> Option<()>
     requires even { length digits.now % 2 ≡ 0 }
     requires room { length digits.now ≤ 2 * length bytes.old }
     ensures value { MatchOption result (hex_bytes digits.now ≡ None) (λ _. hex_bytes digits.now ≡ Some (take (length digits.now / 2) bytes.new)) }

@@ -4,6 +4,7 @@ ghost use Rattle.std.specs.Option.{option_copied};
 ghost use Rattle.mdc_types.specs.Bits.{has_bit};
 ghost use Rattle.script_text.specs.declared.faults.FaultKind.{FaultKind};
 ghost use Rattle.script_text.specs.Lines.{words_after, input_part, script_limit};
+ghost use Rattle.script_text.specs.Images.{images_of, images_fault_of};
 ghost use Rattle.script_text.specs.Locks.{lock_script_of, lock_fault_of};
 ghost use Rattle.script_text.specs.Wire.{wire_script_of, wire_fault_of};
 ghost use Rattle.script_text.specs.Header.{start_sizes, most_nodes};
@@ -15,7 +16,7 @@ use crate::arguments::alone;
 use crate::faults::at_line;
 use crate::header::{SetupLine, is_setup, setup_line, start};
 use crate::lines::{split_line, split_word};
-use crate::{FaultKind, FaultLine, Line, Script, ScriptEnd, ScriptFault, Start};
+use crate::{FaultKind, FaultLine, Line, Script, ScriptEnd, ScriptFault, ScriptLines, Start};
 use mdc_types::with_leg;
 use std::alloc::{AllocError, Global};
 
@@ -204,7 +205,8 @@ pub fn read_script(alloc: Global, bytes: &[u8]) -> Result<Script<'_>, ScriptEnd>
 
     // Spares and failing transfers are those of its legs, and leg 0 is no spare.
     ensures leg_0 { IfOk result (λ s. has_bit s.start.spares 0 ≡ false) }
-    ensures spares { IfOk result (λ s. (l : ℕ) → has_bit s.start.spares l ≡ true → l < s.start.legs) }
+    ensures spares { IfOk result (λ s. (l : ℕ) →
+        has_bit s.start.spares l ≡ true → l < s.start.legs) }
     ensures faults { IfOk result (λ s. AllByRecursion (λ f. f.leg < s.start.legs) s.faults) }
 {
     let (start, at, line) = read_start(bytes)?;
@@ -213,18 +215,25 @@ pub fn read_script(alloc: Global, bytes: &[u8]) -> Result<Script<'_>, ScriptEnd>
     Ok(Script {
         start,
         faults,
-        bytes,
-        places,
+        lines: ScriptLines { bytes, places },
     })
 }
 
 /// A law: what [`read_input`](crate::read_input) takes of an input is judged as all of it would be. It
-/// is the same script, and has the same fault, and so it is as a lock script and as a wire script.
+/// is the same script, and has the same fault, and so it is as a script of images, as a lock script and
+/// as a wire script.
 pub fn part_is_judged_as_all()
     ensures script { (bytes : List ℕ) → script_of (input_part bytes) ≡ script_of bytes }
     ensures fault { (bytes : List ℕ) → fault_of (input_part bytes) ≡ fault_of bytes }
-    ensures lock_script { (bytes : List ℕ) → lock_script_of (input_part bytes) ≡ lock_script_of bytes }
-    ensures lock_fault { (bytes : List ℕ) → lock_fault_of (input_part bytes) ≡ lock_fault_of bytes }
-    ensures wire_script { (bytes : List ℕ) → wire_script_of (input_part bytes) ≡ wire_script_of bytes }
-    ensures wire_fault { (bytes : List ℕ) → wire_fault_of (input_part bytes) ≡ wire_fault_of bytes }
+    ensures images { (bytes : List ℕ) → images_of (input_part bytes) ≡ images_of bytes }
+    ensures images_fault { (bytes : List ℕ) →
+        images_fault_of (input_part bytes) ≡ images_fault_of bytes }
+    ensures lock_script { (bytes : List ℕ) →
+        lock_script_of (input_part bytes) ≡ lock_script_of bytes }
+    ensures lock_fault { (bytes : List ℕ) →
+        lock_fault_of (input_part bytes) ≡ lock_fault_of bytes }
+    ensures wire_script { (bytes : List ℕ) →
+        wire_script_of (input_part bytes) ≡ wire_script_of bytes }
+    ensures wire_fault { (bytes : List ℕ) →
+        wire_fault_of (input_part bytes) ≡ wire_fault_of bytes }
 {}

@@ -60,11 +60,16 @@ pub struct FaultLine {
     pub new: bool,
 }
 
-/// A line of a script, before the line `end`. All but the first are queries, which are no events.
+/// A line of a script, before the line `end`. The first is an event, the next two have events that the
+/// program chooses, and the others are queries, which are no events.
 #[derive(Clone, Copy)]
 pub enum Line {
     /// An event that is to be tried.
     Event(Event),
+    /// `auto K`: up to so many events that help the cluster on.
+    Auto(u32),
+    /// `storm SEED K`: so many turns of events that are drawn from the seed.
+    Storm { seed: u32, turns: u32 },
     /// The query `view N`: the roles of the legs for the node, and those that it lost.
     View(NodeId),
     /// The query `map N`: the chunks of the node's bitmap, and those that are to be copied.
@@ -77,32 +82,70 @@ pub enum Line {
     Size(NodeId),
     /// The query `check`: whether what was done so far is a legal history.
     Check,
+    /// The query `compare`: whether the working legs hold the same.
+    Compare,
 }
 
-/// A script that is in the grammar. It keeps the bytes and where the lines stand in them, and reads a
-/// line when it is asked for.
+/// The lines of a script that is in the grammar. It keeps the bytes and where the lines stand in them,
+/// and reads a line when it is asked for.
 #[derive(Drop)]
-pub struct Script<'a> {
-    pub(crate) start: Start,
-    pub(crate) faults: Vec<FaultLine>,
+pub struct ScriptLines<'a> {
     pub(crate) bytes: &'a [u8],
     // Where each line begins.
     pub(crate) places: Vec<u32>,
 }
 
-impl<'a> Model for Script<'a> {
-    ghost use Rattle.script_text.specs.Script.{ScriptValue, line_of};
+impl<'a> Model for ScriptLines<'a> {
+    ghost use Rattle.std.specs.Prelude.{List};
+    ghost use Rattle.script_text.specs.declared.script.Line.{Line};
 
-    ghost Value = { ScriptValue };
+    ghost Value = { List Line };
 
+    ghost use Rattle.script_text.specs.Script.{line_of};
     ghost use Rattle.script_text.specs.Places.{lines_at, AreLines};
 
-    ghost view = { λ s. record { start = s.start; faults = s.faults.items; lines = lines_at line_of s.bytes.now s.places.items } };
+    ghost view = { λ s. lines_at line_of s.bytes.now s.places.items };
 
     ghost invariant = { λ s. AreLines line_of s.bytes.now s.places.items };
 }
 
-impl Script<'_> {
+impl ScriptLines<'_> {
+    /// The number of lines.
+    pub fn len(&self) -> usize
+        ensures { result ≡ length self.now }
+    {
+        self.places.len()
+    }
+
+    /// Line `i`, from 0.
+    pub fn line(&self, i: usize) -> Line
+        requires { i < length self.now }
+        ensures { slice_get self.now i ≡ Some result }
+    {
+        match line_at::<Line>(self.bytes, self.places[i]) {
+            Some(line) => line,
+            None => unreachable!(),
+        }
+    }
+}
+
+/// A script that is in the grammar.
+#[derive(Drop)]
+pub struct Script<'a> {
+    pub(crate) start: Start,
+    pub(crate) faults: Vec<FaultLine>,
+    pub(crate) lines: ScriptLines<'a>,
+}
+
+impl<'a> Model for Script<'a> {
+    ghost use Rattle.script_text.specs.Script.{ScriptValue};
+
+    ghost Value = { ScriptValue };
+
+    ghost view = { λ s. record { start = s.start; faults = s.faults.items; lines = s.lines } };
+}
+
+impl<'a> Script<'a> {
     /// The array of the header, with its room and its spares.
     pub fn start(&self) -> &Start
         ensures { result.now ≡ self.now.start }
@@ -117,11 +160,18 @@ impl Script<'_> {
         self.faults.as_slice()
     }
 
+    /// The lines.
+    pub fn lines(&self) -> &ScriptLines<'a>
+        ensures { result.now ≡ self.now.lines }
+    {
+        &self.lines
+    }
+
     /// The number of lines.
     pub fn len(&self) -> usize
         ensures { result ≡ length self.now.lines }
     {
-        self.places.len()
+        self.lines.len()
     }
 
     /// Line `i`, from 0.
@@ -129,9 +179,6 @@ impl Script<'_> {
         requires { i < length self.now.lines }
         ensures { slice_get self.now.lines i ≡ Some result }
     {
-        match line_at::<Line>(self.bytes, self.places[i]) {
-            Some(line) => line,
-            None => unreachable!(),
-        }
+        self.lines.line(i)
     }
 }
