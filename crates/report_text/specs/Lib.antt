@@ -1,3 +1,4 @@
+pub mod Drivers
 pub mod Events
 pub mod Fields
 pub mod Lines

@@ -6,6 +6,8 @@ use Rattle.mdc_types.specs.declared.roles.NodeState.TheVariants as states
 use Rattle.leg_failure.specs.Views.{Parts as ViewParts, view_of, is_unacked}
 use Rattle.node_bitmaps.specs.Map.{Map, bitmap_of, chunks_in}
 use Rattle.node_member.specs.Parts.{Parts as RecordParts, members_of}
+use Rattle.report_text.specs.declared.queries.Compared.{Compared}
+use Rattle.report_text.specs.declared.queries.Compared.TheVariants.{Equal, Differ, Unread}
 use Rattle.report_text.specs.Lines.{line}
 use Rattle.report_text.specs.Sets.{set_text, roles_text}
 use Rattle.report_text.specs.Words.{phase_word}
@@ -57,3 +59,12 @@ legal_line entries = line (codes "legal") (decimal entries ∷ [])
 -- the entry at this place, from 1, is the first that is none
 abbrev pub bad_line : ℕ → List ℕ
 bad_line place = line (codes "bad") (decimal place ∷ [])
+
+-- the working legs hold the same, differ in this sector first, or this one wasn't read
+abbrev pub compared_values : Compared → List (List ℕ)
+compared_values Equal = codes "equal" ∷ []
+compared_values (Differ s) = codes "differ" ∷ decimal s ∷ []
+compared_values (Unread l) = codes "unread" ∷ decimal l ∷ []
+
+abbrev pub compared_line : Compared → List ℕ
+compared_line found = line (codes "legs") (compared_values found)

@@ -2,15 +2,15 @@ ghost use Rattle.std.specs.Prelude.{◌≡◌, ◌<◌, ◌∷◌, [], IfOk, str
 ghost use Rattle.report_text.specs.Lines.{line};
 ghost use Rattle.report_text.specs.Sets.{numbers_text, roles_text};
 ghost use Rattle.report_text.specs.Words.{phase_word};
-ghost use Rattle.report_text.specs.Queries.{view_line, size_line, map_line, slot_line, record_line, legal_line, bad_line};
+ghost use Rattle.report_text.specs.Queries.{view_line, size_line, map_line, slot_line, record_line, legal_line, bad_line, compared_line};
 
 use crate::line::Field::{Number, Numbers, RoleLetters, Word};
-use crate::line::Line::One;
+use crate::line::Line::{One, Two};
 use crate::line::join;
 use crate::sets::{chunks_on_leg, legs_of, live_nodes, needed_chunks, pending_nodes, set_chunks};
 use crate::words::phase_word;
 use leg_failure::View;
-use mdc_types::{LegId, NodeId, NodeState, Roles, Word as Phase};
+use mdc_types::{LegId, NodeId, NodeState, Roles, SectorNo, Word as Phase};
 use node_bitmaps::NodeMap;
 use node_member::Record;
 use std::alloc::{AllocError, Global};
@@ -167,4 +167,26 @@ pub fn bad_text(alloc: Global, place: u64) -> Result<String, AllocError>
     ensures { IfOk result (λ t. string_bytes t ≡ bad_line place) }
 {
     One("bad", Number(place)).text(alloc)
+}
+
+/// What a comparison of the working legs found.
+#[derive(Clone, Copy, PartialEq, Eq, Debug)]
+pub enum Compared {
+    /// They hold the same.
+    Equal,
+    /// This is the least sector in which two of them differ.
+    Differ(SectorNo),
+    /// A read of this leg failed.
+    Unread(LegId),
+}
+
+/// The text of the query `compare`. It has no line feed.
+pub fn compared_text(alloc: Global, found: Compared) -> Result<String, AllocError>
+    ensures { IfOk result (λ t. string_bytes t ≡ compared_line found) }
+{
+    match found {
+        Compared::Equal => One("legs", Word("equal")).text(alloc),
+        Compared::Differ(s) => Two("legs", Word("differ"), Number(u64::from(s))).text(alloc),
+        Compared::Unread(l) => Two("legs", Word("unread"), Number(u64::from(l))).text(alloc),
+    }
 }
