@@ -1,0 +1,5 @@
+pub mod Drivers
+pub mod Playing
+pub mod QueryAnswers
+pub mod Running
+pub mod Texts
