@@ -1,0 +1,4 @@
+pub mod Arrays
+pub mod Commands
+pub mod Names
+pub mod Words
