@@ -1,0 +1,4 @@
+pub mod LegLaws
+pub mod NextLegs
+pub mod DataLaws
+pub mod ArrayLaws
