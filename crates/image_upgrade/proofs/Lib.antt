@@ -1,0 +1,5 @@
+pub mod AtLaws
+pub mod BackLaws
+pub mod PutLaws
+pub mod StoreLaws
+pub mod UpgradeLaws

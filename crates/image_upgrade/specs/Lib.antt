@@ -1,0 +1,4 @@
+pub mod Ends
+pub mod Stored
+pub mod Upgrading
+pub mod Told

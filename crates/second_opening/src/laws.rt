@@ -1,0 +1,7 @@
+ghost use Rattle.second_opening.specs.Laws.{UpgradedImagesOpenAlike};
+
+/// Images of version 2 that were made of images without a fault have none either, and they open with
+/// what the old ones open with, but for the version. It does nothing: its clause is the law.
+pub fn upgraded_images_open_alike()
+    ensures { UpgradedImagesOpenAlike }
+{}

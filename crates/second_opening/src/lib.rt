@@ -1,0 +1,6 @@
+//! What an array opens with once its images were made into those of version 2.
+#![tactic(auto)]
+
+mod laws;
+
+pub use laws::upgraded_images_open_alike;
