@@ -16,7 +16,8 @@ use Rattle.script_text.specs.declared.script.Start.{Start}
 use Rattle.script_text.specs.declared.script.FaultLine.{FaultLine}
 use Rattle.leg_store.specs.declared.memory.Left.{Left}
 use Rattle.cluster_core.specs.World.{Seen}
-use Rattle.mdc.specs.Opened.{left_by, stand, state_at, Starts, IsNewLeg, AreNewLegs, origin_of, sizes_of, faults_of, no_leg}
+use Rattle.cluster_core.specs.Stands.{stand, state_at}
+use Rattle.mdc.specs.Opened.{left_by, Starts, IsNewLeg, AreNewLegs, origin_of, sizes_of, faults_of, no_leg}
 
 module _ (o : Origin) (faults : List FaultLine) (legs : List Memory)
     (are : AreNewLegs o faults o.sizes.legs legs) where

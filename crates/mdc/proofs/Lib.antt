@@ -1,6 +1,5 @@
 mod SoundStart
-mod Within
 mod Header
-mod Played
 mod Answering
 mod WireAnswering
+mod ImageAnswering

@@ -1,11 +1,8 @@
 -- From the lines of a wire script that were run to what the program answers.
 use Rattle.std.proofs.Common.{◌≡◌, inl, inr, ℕ, List, Option, None, Ok, refl, sym, subst}
 use Rattle.mdc_types.specs.Faults.{Rose}
-use Rattle.script_text.specs.declared.command.Command.TheVariants as commands
 use Rattle.script_text.specs.declared.faults.ScriptFault.{ScriptFault}
 use Rattle.script_text.specs.Wire.{WireValue, IsWireScript, wire_script_of, wire_fault_of}
-use Rattle.script_text.specs.Words.{command_of}
-use Rattle.mdc.specs.Answers.{AnswersTo, Answers}
 use Rattle.mdc.specs.Call.{Outside, Reads}
 use Rattle.mdc.specs.LockAnswers.{FaultTold}
 use Rattle.mdc.specs.WireAnswers.{ReadsWire, ReadsNoWire, WireJudged, WireAnswers}
@@ -24,6 +21,8 @@ told_wire bytes w now fault statuses.Done none is t = absurd t
 told_wire bytes w now fault statuses.Usage none is t = absurd t
 told_wire bytes w now fault statuses.ReadFault none is t = absurd t
 told_wire bytes w now fault statuses.TraceFull none is t = absurd t
+told_wire bytes w now fault (statuses.Image l f) none is t = absurd t
+told_wire bytes w now fault (statuses.Shelf l) none is t = absurd t
 
 -- what was judged of the bytes that were taken is the answer
 module _ (o : Outside) (bytes : List ℕ) (reads : Reads o bytes) where
@@ -34,7 +33,7 @@ module _ (o : Outside) (bytes : List ℕ) (reads : Reads o bytes) where
       → ReadsNoWire o fault
   no_wire_read fault none is = record { bytes = bytes; reads = reads; none = none; is = is }
 
-  wire_answers_of : (status : Status) → WireJudged bytes o.written o.written_after status
+  pub wire_answers_of : (status : Status) → WireJudged bytes o.written o.written_after status
       → (status ≡ statuses.WriteFault → Rose o.sink_faults o.sink_faults_after) → WireAnswers o status
   wire_answers_of statuses.Done judged rose = (judged.0, (wire_read judged.0 judged.1.0, judged.1.1))
   wire_answers_of (statuses.Script fault) judged rose = (no_wire_read fault judged.0 judged.1, judged.2)
@@ -50,9 +49,5 @@ module _ (o : Outside) (bytes : List ℕ) (reads : Reads o bytes) where
   wire_answers_of statuses.Usage judged rose = absurd judged
   wire_answers_of statuses.ReadFault judged rose = absurd judged
   wire_answers_of statuses.TraceFull judged rose = absurd judged
-
-  pub wire_answers : (status : Status)
-      → (status ≡ statuses.WriteFault → Rose o.sink_faults o.sink_faults_after)
-      → command_of o.words ≡ Ok commands.Wire → WireJudged bytes o.written o.written_after status
-      → Answers o status
-  wire_answers status rose is judged = subst (λ w. AnswersTo w o status) (sym is) (wire_answers_of status judged rose)
+  wire_answers_of (statuses.Image l f) judged rose = absurd judged
+  wire_answers_of (statuses.Shelf l) judged rose = absurd judged

@@ -1,8 +1,9 @@
 pub mod Answers
 pub mod Call
 pub mod Codes
+pub mod ImageAnswers
 pub mod LockAnswers
 pub mod Opened
 pub mod Playing
-pub mod QueryAnswers
+pub mod Telling
 pub mod WireAnswers

@@ -41,8 +41,7 @@ LockAnswers o statuses.ReadFault = Rose o.source_faults o.source_faults_after ×
 LockAnswers o statuses.WriteFault = Rose o.sink_faults o.sink_faults_after × LocksCut o
 -- memory is wanting: nothing was written, or the text of the first lines
 LockAnswers o statuses.Memory = (o.written_after ≡ o.written) ⊎ ((script : List LockLine) × (ReadsLocks o script × RanSome script o.written o.written_after))
-LockAnswers o statuses.Usage = ⊥
-LockAnswers o statuses.TraceFull = ⊥
+LockAnswers o status = ⊥
 
 -- how bytes were judged and run, and what was written
 abbrev pub LocksJudged : List ℕ → Option (List ℕ) → Option (List ℕ) → Status → Type 0

@@ -4,48 +4,17 @@ use Rattle.std.specs.Prelude.{if◌then◌else◌, get_or, Some}
 use Rattle.mdc_types.specs.Geometry.{Sizes, length_of}
 use Rattle.mdc_types.specs.Sectors.{zero_sector}
 use Rattle.mdc_types.specs.declared.numbers.Sector.{Sector}
-use Rattle.mdc_types.specs.declared.outcomes.Entry.{Entry}
 use Rattle.leg_store.specs.Memory.{Memory}
 use Rattle.leg_store.specs.declared.memory.Left.{Left}
 use Rattle.leg_store.specs.declared.memory.Left.TheVariants.{Old, New}
-use Rattle.plain_history.specs.History.{values_at}
 use Rattle.cluster_model.specs.State.{State}
 use Rattle.cluster_model.specs.Opening.{Origin, header_at}
-use Rattle.cluster_model.specs.Contents.{Opens, IsHeader, SoundOpening, header_sector}
-use Rattle.cluster_model.specs.Run.{Run}
-use Rattle.laws_roles.specs.Laws.{Tells}
-use Rattle.world_state.specs.Kept.{Kept}
-use Rattle.world_state.specs.Told.{LegsSeen, state_with, plan_at}
-use Rattle.cluster_core.specs.World.{Seen, state}
+use Rattle.cluster_model.specs.Contents.{Opens, IsHeader, header_sector}
+use Rattle.world_state.specs.Told.{LegsSeen, plan_at}
+use Rattle.cluster_core.specs.Stands.{Stand, state_at}
 use Rattle.script_text.specs.declared.script.Start.{Start}
 use Rattle.script_text.specs.declared.script.FaultLine.{FaultLine}
 use Rattle.script_text.specs.Script.{ScriptValue}
-
--- where the lines of a script stand: what is kept of the state, what is seen of the legs, and the
--- entries, the newest first
-pub record Stand : Type 0 where
-  pub kept : Kept
-  pub legs : LegsSeen
-  pub past : List Entry
-
--- where a world stands
-abbrev pub stand : Seen → Stand
-stand w = record { kept = w.kept; legs = w.legs; past = w.past }
-
--- the values of each sector at its opening
-abbrev pub base_at : Seen → ℕ → List Sector
-base_at w = values_at w.origin.base
-
--- a run led the world here from a sound opening, over legs that tell their contents
-pub record ComesSound (w : Seen) : Type 0 where
-  pub start : State
-  pub sound : SoundOpening w.origin start
-  pub tells : Tells w.origin start
-  pub run : Run start w.past (state w)
-
--- the machine's state there
-abbrev pub state_at : Stand → State
-state_at at = state_with at.kept at.legs
 
 abbrev pub sizes_of : Start → Sizes
 sizes_of s = record {

@@ -49,8 +49,7 @@ WireAnswers o statuses.Memory =
     (o.written_after ≡ o.written)
     ⊎ ((script : WireValue)
     × (ReadsWire o script × RanSome script.nodes script.lines o.written o.written_after))
-WireAnswers o statuses.Usage = ⊥
-WireAnswers o statuses.TraceFull = ⊥
+WireAnswers o status = ⊥
 
 -- how bytes were judged and run, and what was written
 abbrev pub WireJudged : List ℕ → Option (List ℕ) → Option (List ℕ) → Status → Type 0

@@ -2,7 +2,8 @@ ghost use Rattle.std.specs.Prelude.{◌≡◌, ◌≤◌, ◌<◌, true, false, 
 ghost use Rattle.mdc_types.specs.Bits.{has_bit};
 ghost use Rattle.cluster_model.specs.Opening.{IsOrigin};
 ghost use Rattle.script_text.specs.Header.{start_sizes, most_nodes};
-ghost use Rattle.mdc.specs.Opened.{stand, Starts, origin_of, sizes_of, faults_of, left_by};
+ghost use Rattle.cluster_core.specs.Stands.{stand};
+ghost use Rattle.mdc.specs.Opened.{Starts, origin_of, sizes_of, faults_of, left_by};
 ghost use Rattle.mdc.specs.Opened.{IsNewLeg, AreNewLegs};
 
 use cluster_core::World;

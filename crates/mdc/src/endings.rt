@@ -2,6 +2,7 @@ ghost use Rattle.std.specs.Prelude.{◌≡◌, IfOk, string_bytes};
 ghost use Rattle.mdc_types.specs.Faults.{Rose};
 ghost use Rattle.mdc.specs.Call.{script_line};
 ghost use Rattle.mdc.specs.LockAnswers.{FaultTold};
+ghost use Rattle.mdc.specs.Telling.{LineTold};
 
 use crate::status::Status;
 use script_text::{ScriptFault, Sink, write_all};
@@ -31,5 +32,16 @@ pub fn tell_fault<K: Sink>(alloc: Global, fault: ScriptFault, sink: &mut K) -> S
             Err(_) => Status::WriteFault,
         },
         Err(_) => Status::Memory,
+    }
+}
+
+/// Tells why a call comes to nothing, by this last line of it.
+pub fn tell_line<K: Sink>(line: &[u8], status: Status, sink: &mut K) -> Status
+    ensures { LineTold line.now status (K.written sink.old) (K.written sink.new)
+        (K.faults sink.old) (K.faults sink.new) result }
+{
+    match write_all(sink, line) {
+        Ok(()) => status,
+        Err(_) => Status::WriteFault,
     }
 }

@@ -1,16 +1,17 @@
-//! `mdc` plays scripts of cluster events over a mirror's legs, and runs scripts of a lock space,
-//! which may be spread over nodes.
+//! `mdc` plays scripts of cluster events over a mirror's legs, in memory or in the image files of an
+//! array, which it makes, shows and upgrades, and runs scripts of a lock space, which may be spread over
+//! nodes.
 #![tactic(auto)]
 
 ghost use Rattle.std.specs.Prelude.{◌≡◌, drop};
 
 mod array;
-mod checking;
 mod endings;
+mod images;
+mod inputs;
 mod locks;
 mod play;
-mod playing;
-mod queries;
+mod scripts;
 mod status;
 #[cfg(test)]
 mod tests;
@@ -18,6 +19,7 @@ mod wire;
 
 use crate::play::play;
 use crate::status::Status;
+use leg_shelf::FolderShelf;
 use script_text::{StdSink, StdSource};
 use std::alloc::AllocError;
 use std::env;
@@ -45,7 +47,15 @@ fn main(rt: HostRuntime) -> ExitCode {
     let status = match (words, StdSource::new(alloc, rt.stdin())) {
         (Ok(words), Ok(mut source)) => {
             let mut sink = StdSink::new(rt.stdout());
-            play(alloc, after_name(words.as_slice()), &mut source, &mut sink)
+            let mut shelf = FolderShelf::new(&rt);
+            play(
+                &rt,
+                alloc,
+                after_name(words.as_slice()),
+                &mut shelf,
+                &mut source,
+                &mut sink,
+            )
         }
         _ => Status::Memory,
     };

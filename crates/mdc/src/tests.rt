@@ -1,13 +1,17 @@
 use crate::array::open_world;
 use crate::play::play;
 use crate::status::Status;
+use leg_shelf::MemShelf;
 use script_text::{MemSink, MemSource, ScriptEnd, read_script};
 use std::alloc::{AllocError, Global};
+use std::thread::Threads;
 
-// The status of a call with these words, parted by spaces, and what it wrote. The calls of these
-// numbers fail, which count from 0.
-fn played(
+// The status of a call with these words, parted by spaces, over this shelf, and what it wrote. The calls
+// of these numbers fail, which count from 0.
+fn called<R: Threads + Sync>(
+    rt: &R,
     alloc: Global,
+    shelf: &mut MemShelf,
     words: &str,
     script: &[u8],
     read: u32,
@@ -20,8 +24,21 @@ fn played(
     let script = Vec::from_slice(alloc, script)?;
     let mut source = MemSource::new(script, Vec::from_slice(alloc, &[read])?);
     let mut sink = MemSink::new(alloc, 2_000_000, Vec::from_slice(alloc, &[write])?)?;
-    let status = play(alloc, owned.as_slice(), &mut source, &mut sink);
+    let status = play(rt, alloc, owned.as_slice(), shelf, &mut source, &mut sink);
     Ok((status, sink))
+}
+
+// The same over an empty shelf.
+fn played<R: Threads + Sync>(
+    rt: &R,
+    alloc: Global,
+    words: &str,
+    script: &[u8],
+    read: u32,
+    write: u32,
+) -> Result<(Status, MemSink), AllocError> {
+    let mut shelf = MemShelf::new(alloc, Vec::new(alloc));
+    called(rt, alloc, &mut shelf, words, script, read, write)
 }
 
 // No call has this number.
@@ -51,6 +68,58 @@ const WIRE: &str =
 
 const WIRE_SAYS: &str =
     "asked\ntook ask\ngranted 0 CR\ntook granted\nasked\ntook convert\ngranted 0 EX\nholds 0 CR\ntook granted\nholds 0 EX\n";
+
+// Four nodes through deaths, a cut leg and its replacement.
+const STORM: &str = "array 3 1024 128 4\nstorm 7 20000\nauto 40000\ncheck\ncompare\nview 0\nend\n";
+
+const STORM_SAYS: &str =
+    "storm turns 20000 events 18283 refused 1717 writes 2171 ended 2163 reads 1869 deaths 2 recovered 0\nauto 9777\nlegal 28060\nlegs equal\nview 0 up WWW lost - unacked -\n";
+
+// A write that stands on one leg, a read of `compare` that fails, and the end of both.
+const COMPARED: &str =
+    "array 2 8 4 1\nfault 1 11 old\nw 0 2 01\nbit 0 0 0\nbit 0 0 1\nout 0 0 0\ncompare\nout 0 0 1\ncompare\ncompare\nend\n";
+
+const COMPARED_SAYS: &str =
+    "write 0\ndone\ndone\ndone\nlegs differ 2\ndone\nlegs unread 1\nlegs equal\n";
+
+const DEMO: &str = "create demo 2 16 4 00000000000000000000000000000000";
+
+// A node comes in, and the images outlive it.
+const COMES_IN: &str =
+    "images\njoin 0\ngrant token\nload 0 0\nload 0 1\nup 0\nmessage 0\ngrant message\noffer 0 meta\nsb 0 0\nsb 0 1\npublish 0\ngrant ack\nfinish 0\nw 0 5 6869\nbit 0 0 0\nbit 0 0 1\nout 0 0 0\nout 0 0 1\nok 0 0\nr 0 5\nin 0 0\ncheck\ncompare\nend\n";
+
+const COMES_IN_SAYS: &str =
+    "done\ngranted 0 EX\nsuper 1\nsuper 1\ndone\ndone\ngranted 0 EX\nevents 2\ndone\ndone\ndone\ngranted 0 EX\ndone\nwrite 0\ndone\ndone\ndone\ndone\ndone\nread 0\nvalue 0 6869\nlegal 21\nlegs equal\n";
+
+// Calls over one shelf, one after another: the words, the script, the status, and how the text begins.
+const IMAGES: &[(&str, &str, u8, &str)] = &[
+    (DEMO, "", 0, "created demo.0\ncreated demo.1\n"),
+    ("show demo", "", 0, "leg 0 events 1 roles WW sum 1899b4ef\n"),
+    ("play demo", "images\ncheck\nend\n", 0, "legal 0\n"),
+    ("play demo", COMES_IN, 0, COMES_IN_SAYS),
+    ("show demo", "", 0, "leg 0 events 2 roles WW sum "),
+    (
+        "play demo",
+        "array 2 16 4 1\nend\n",
+        3,
+        "script 1 no-array\n",
+    ),
+    (
+        "upgrade demo demo2",
+        "",
+        0,
+        "upgraded demo2.0\nupgraded demo2.1\n",
+    ),
+    ("upgrade demo2 demo3", "", 4, "image 0 upgraded\n"),
+    ("play demo2", "images\ncompare\nend\n", 0, "legs equal\n"),
+    ("show none", "", 4, "image 0 missing\n"),
+    (
+        "create de-mo 2 16 4 00000000000000000000000000000000",
+        "",
+        2,
+        "usage\n",
+    ),
+];
 
 // The words, the script, the read and the write that fail, the number of the status and the text.
 const CALLS: &[(&str, &str, u32, u32, u8, &str)] = &[
@@ -84,6 +153,9 @@ const CALLS: &[(&str, &str, u32, u32, u8, &str)] = &[
         "asked\ngranted 0 EX\nconverted\nrefused not-held\n",
     ),
     ("wire", WIRE, NEVER, NEVER, 0, WIRE_SAYS),
+    // Events that the program chooses, and a comparison of the legs.
+    ("play", STORM, NEVER, NEVER, 0, STORM_SAYS),
+    ("play", COMPARED, NEVER, NEVER, 0, COMPARED_SAYS),
     ("frob", FIRST, NEVER, NEVER, 2, "usage\n"),
     ("", FIRST, NEVER, NEVER, 2, "usage\n"),
     ("play", "", NEVER, NEVER, 3, "script 1 no-array\n"),
@@ -105,7 +177,7 @@ const CALLS: &[(&str, &str, u32, u32, u8, &str)] = &[
 #[test]
 fn calls(rt: HostRuntime) -> Result<(), AllocError> {
     for (words, script, read, write, code, text) in CALLS {
-        let (status, sink) = played(rt.alloc(), words, script.as_bytes(), *read, *write)?;
+        let (status, sink) = played(&rt, rt.alloc(), words, script.as_bytes(), *read, *write)?;
         assert_eq!(rt; status.code(), *code, "at {words} {script:?}");
         assert_eq!(rt; sink.bytes(), text.as_bytes(), "at {words} {script:?}");
     }
@@ -123,7 +195,14 @@ fn the_trace_is_full(rt: HostRuntime) -> Result<(), AllocError> {
         script.push_str("\n")?;
     }
     script.push_str("in 0 0\nr 0 5\nr 0 5\nend\n")?;
-    let (status, sink) = played(rt.alloc(), "play", script.as_str().as_bytes(), NEVER, NEVER)?;
+    let (status, sink) = played(
+        &rt,
+        rt.alloc(),
+        "play",
+        script.as_str().as_bytes(),
+        NEVER,
+        NEVER,
+    )?;
     assert_eq!(rt; status.code(), 9);
     assert!(rt;
         sink.bytes()
@@ -142,5 +221,37 @@ fn a_world_takes_room(rt: HostRuntime) -> Result<(), AllocError> {
     let mut world = open_world(rt.alloc(), &script)?;
     world.reserve(10)?;
     assert!(rt; world.spare() >= 10);
+    Ok(())
+}
+
+#[test]
+fn images(rt: HostRuntime) -> Result<(), AllocError> {
+    let mut shelf = MemShelf::new(rt.alloc(), Vec::new(rt.alloc()));
+    for (words, script, code, text) in IMAGES {
+        let (status, sink) = called(
+            &rt,
+            rt.alloc(),
+            &mut shelf,
+            words,
+            script.as_bytes(),
+            NEVER,
+            NEVER,
+        )?;
+        assert_eq!(rt; status.code(), *code, "at {words} {script:?}");
+        assert!(rt;
+            sink.bytes().starts_with(text.as_bytes()),
+            "at {words} {script:?}"
+        );
+    }
+    Ok(())
+}
+
+// The shelf fails at a call on the second leg's file, and nothing else is printed.
+#[test]
+fn a_shelf_fails(rt: HostRuntime) -> Result<(), AllocError> {
+    let mut shelf = MemShelf::new(rt.alloc(), Vec::from_slice(rt.alloc(), &[1])?);
+    let (status, sink) = called(&rt, rt.alloc(), &mut shelf, DEMO, b"", NEVER, NEVER)?;
+    assert_eq!(rt; status.code(), 7);
+    assert_eq!(rt; sink.bytes(), "shelf demo.1\n".as_bytes());
     Ok(())
 }
