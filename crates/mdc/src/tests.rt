@@ -2,6 +2,7 @@ use crate::array::open_world;
 use crate::play::play;
 use crate::status::Status;
 use leg_shelf::MemShelf;
+use leg_store::Left;
 use script_text::{MemSink, MemSource, ScriptEnd, read_script};
 use std::alloc::{AllocError, Global};
 use std::thread::Threads;
@@ -242,6 +243,88 @@ fn images(rt: HostRuntime) -> Result<(), AllocError> {
             sink.bytes().starts_with(text.as_bytes()),
             "at {words} {script:?}"
         );
+    }
+    Ok(())
+}
+
+// A shelf with the images that `create demo` makes, some of whose calls fail.
+fn with_images<R: Threads + Sync>(
+    rt: &R,
+    alloc: Global,
+    failing: Vec<u32>,
+) -> Result<MemShelf, AllocError> {
+    let mut made = MemShelf::new(alloc, Vec::new(alloc));
+    called(rt, alloc, &mut made, DEMO, b"", NEVER, NEVER)?;
+    let mut shelf = MemShelf::new(alloc, failing);
+    for name in ["demo.0", "demo.1"] {
+        if let Some(bytes) = made.file(name) {
+            shelf.put(name, Vec::from_slice(alloc, bytes.as_slice())?)?;
+        }
+    }
+    Ok(shelf)
+}
+
+// The call that fails, counted from 0, the status, and how the text ends. Of each leg's file two calls
+// open it, and then each is given back.
+const SHELF_FAILS: &[(u32, u8, &str)] = &[
+    (0, 7, "shelf demo.0\n"),
+    (1, 7, "shelf demo.0\n"),
+    (2, 7, "shelf demo.1\n"),
+    (3, 7, "shelf demo.1\n"),
+    (4, 7, "legs equal\nshelf demo.0\n"),
+    (5, 7, "legs equal\nshelf demo.1\n"),
+    (6, 0, "legs equal\n"),
+];
+
+#[test]
+fn a_shelf_fails_at_each_call(rt: HostRuntime) -> Result<(), AllocError> {
+    for (call, code, text) in SHELF_FAILS {
+        let mut shelf = with_images(&rt, rt.alloc(), Vec::from_slice(rt.alloc(), &[*call])?)?;
+        let (status, sink) = called(
+            &rt,
+            rt.alloc(),
+            &mut shelf,
+            "play demo",
+            COMES_IN.as_bytes(),
+            NEVER,
+            NEVER,
+        )?;
+        assert_eq!(rt; status.code(), *code, "at {call}");
+        assert!(rt; sink.bytes().ends_with(text.as_bytes()), "at {call}");
+    }
+    Ok(())
+}
+
+// The transfer of leg 1 that fails, the status, and how the text ends. Opening reads its superblock, 64
+// pages and 16 data sectors, and then a failed transfer is an outcome.
+const LEG_FAILS: &[(u32, u8, &str)] = &[
+    (0, 7, "shelf demo.1\n"),
+    (1, 7, "shelf demo.1\n"),
+    (64, 7, "shelf demo.1\n"),
+    (80, 7, "shelf demo.1\n"),
+    (81, 0, "super 1\nunread 1\ndone\n"),
+];
+
+#[test]
+fn a_leg_fails(rt: HostRuntime) -> Result<(), AllocError> {
+    let script = "images\njoin 0\ngrant token\nload 0 0\nload 0 1\nup 0\nend\n";
+    for (transfer, code, text) in LEG_FAILS {
+        let mut shelf = with_images(&rt, rt.alloc(), Vec::new(rt.alloc()))?;
+        shelf.fail_leg(
+            "demo.1",
+            Vec::from_slice(rt.alloc(), &[(*transfer, Left::Old)])?,
+        )?;
+        let (status, sink) = called(
+            &rt,
+            rt.alloc(),
+            &mut shelf,
+            "play demo",
+            script.as_bytes(),
+            NEVER,
+            NEVER,
+        )?;
+        assert_eq!(rt; status.code(), *code, "at {transfer}");
+        assert!(rt; sink.bytes().ends_with(text.as_bytes()), "at {transfer}");
     }
     Ok(())
 }
