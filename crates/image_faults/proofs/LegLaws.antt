@@ -1,8 +1,9 @@
 -- A leg's slots, one after another, and its faults.
 use Rattle.std.specs.Prelude.{Bool, true, Result, if◌then◌else◌, unwrap_or, nat_lt, ◌||◌, not}
-use Rattle.std.proofs.Common.{◌≡◌, ℕ, ◌==◌, ◌+◌, ◌-◌, ◌<◌, false, List, [], ◌∷◌, ◌++◌, length, get_or, replicate, Option, Some, None, Ok, Err, refl, ap, sym, ◌∙◌, arith, inl, inr, subst}
+use Rattle.std.proofs.Common.{◌≡◌, ℕ, ◌==◌, ◌+◌, ◌-◌, ◌/◌, ◌<◌, ◌≤◌, ◌&&◌, false, List, [], ◌∷◌, ◌++◌, length, get_or, replicate, Option, Some, None, Ok, Err, refl, ap, sym, ◌∙◌, arith, inl, inr, subst}
 use Rattle.std.specs.Option.{option_map}
 use Rattle.std.proofs.lemmas.Bool.{cases_lt}
+use Rattle.std.proofs.lemmas.Bool.Decides.{nat_tests}
 use Rattle.std.proofs.lemmas.List.{get_or-replicate, get_or_past, length-replicate, get_or_append_left, get_or_push, length_push}
 use Rattle.dlm_modes.specs.First.{first_such}
 use Rattle.dlm_modes.proofs.FirstLaws.{first_such_more, first_such_found, first_such_end}
@@ -11,6 +12,7 @@ use Rattle.std.proofs.Common.{Vec, Global}
 use Rattle.std.proofs.lemmas.Option.{get_or_from_slice_get}
 use Rattle.leg_store.specs.Leg.{Gives}
 use Rattle.mdc_types.specs.Sectors.{zero_sector}
+use Rattle.slot_pages.specs.Slot.{chunk_bit}
 use Rattle.mdc_types.specs.declared.geometry.GeomError.{GeomError}
 use Rattle.mdc_types.specs.declared.geometry.GeomError.TheVariants.{Legs, Sectors, Room, Chunk, Bits}
 use Rattle.mdc_types.specs.declared.chunks.ChunkSet.{ChunkSet}
@@ -19,9 +21,9 @@ use Rattle.md_superblock.specs.Layout.{number_at}
 use Rattle.md_superblock.specs.Superblock.{IsSuper}
 use Rattle.md_superblock.specs.Superblock.{super_of}
 use Rattle.md_superblock.specs.declared.superblock.Super.{Super}
-use Rattle.mdc_types.specs.Geometry.{Sizes, nodes_of, chunks_of, slot_pages, checked, most_chunks, chunk_size_test}
+use Rattle.mdc_types.specs.Geometry.{Sizes, nodes_of, chunks_of, page_of, slot_pages, checked, most_chunks, chunk_size_test}
 use Rattle.mdc_types.specs.declared.numbers.Sector.{Sector}
-use Rattle.image_faults.specs.Slots.{slot_is_wrong, slot_bit, ArePages}
+use Rattle.image_faults.specs.Slots.{slot_is_wrong, slot_bit, page_bytes, ArePages, JudgesSlot, AddsSlot}
 use Rattle.image_faults.specs.Legs.{FitsSuper, HaveSets, ReadsSlot, ReadsSlots, ReadsLeg, first_wrong_slot, slots_fault, leg_fault, super_bytes, first_page, own_chunk}
 use Rattle.image_faults.specs.Sizes.{length_fault, sizes_of}
 use Rattle.image_faults.specs.declared.faults.ImageFault.{ImageFault}
@@ -170,12 +172,42 @@ read_done (Some leg) chunk size s n sum g slots is sizes total done = record {
   bits = done.1;
 }
 
--- the chunks that were added to none are those of the slot
 off : (n : ℕ) (c : ℕ) → get_or (replicate n false) c false ≡ false
 off n c = elim (cases_lt c n) [
   | inl below ↦ get_or-replicate n c false false below
   | inr past ↦ get_or_past (replicate n false) c false (omega (arith, length-replicate n false, past))
 ]
+
+page_within : (second : Bool) (c n : ℕ) → n ≤ (if second then 63488 else 30720) → c < n → page_of c < (if second then 16 else 8)
+page_within true c n most lt = elim (cases_lt c 2048) [
+  | inl low ↦ grind (arith, nat_tests, low)
+  | inr high ↦ let b : 1 + (c - 2048) / 4096 < 16 = omega (arith, most, lt, high) in grind (arith, nat_tests, high, b)
+]
+page_within false c n most lt = elim (cases_lt c 2048) [
+  | inl low ↦ grind (arith, nat_tests, low)
+  | inr high ↦ let b : 1 + (c - 2048) / 4096 < 8 = omega (arith, most, lt, high) in grind (arith, nat_tests, high, b)
+]
+
+bit_added : (b e : Bool) (c n p s : ℕ) → b ≡ false → (c < n → p < s) → e ≡ (nat_lt c n && e) → (b || (nat_lt p s && e)) ≡ e
+bit_added b e c n p s is within of = elim (cases_lt c n) [
+  | inl lt ↦ let w = within lt in grind (arith, nat_tests, is, w, lt, of)
+  | inr past ↦ grind (arith, nat_tests, is, past, of)
+]
+
+in_array : (x y z : Bool) → (x && y && z) ≡ (x && (x && y && z))
+in_array x y z = grind arith
+
+-- the chunks that were added to none are those of the slot
+pub slot_read : (told : Option (List Sector)) (g : Sizes) (uuid : List ℕ) (k n : ℕ) (set : List Bool) → chunks_of g ≤ most_chunks g
+    → JudgesSlot told g uuid k true → AddsSlot told g k (replicate n false) set → ReadsSlot told g uuid k (Ok set)
+slot_read None g uuid k n set most judged adds = tt
+slot_read (Some leg) g uuid k n set most judged adds = (
+  let e : slot_is_wrong g uuid leg k ≡ false = grind (arith, judged) in e,
+  λ c. adds.each c
+    ∙ bit_added (get_or (replicate n false) c false) (slot_bit g leg k c) c (chunks_of g) (page_of c) (slot_pages g) (off n c)
+    (λ lt. page_within g.second c (chunks_of g) most lt)
+    (in_array (nat_lt c (chunks_of g)) (page_of c == page_of c) (chunk_bit (page_bytes g leg k (page_of c)) c)),
+)
 
 -- what isn't there is None
 pub not_there : {X : Type 0} (o : Option X) → ((x : X) → o ≡ Some x → ⊥) → o ≡ None

@@ -8,7 +8,8 @@ use Rattle.mdc_types.specs.Geometry.{Sizes, most_chunks}
 use Rattle.node_bitmaps.specs.Bitmap.{with_set, with_need}
 use Rattle.node_bitmaps.specs.Map.{Map, bitmap_of, chunks_in, pages_in, HasSize}
 use Rattle.map_index.specs.Index.{Covers, IsIndexed}
-use Rattle.map_index.proofs.Blocks.{marked_anew, in_block}
+use Rattle.mdc_types.proofs.Blocks.{in_block}
+use Rattle.map_index.proofs.Blocks.{marked_anew}
 
 -- elsewhere nothing passes anew
 elsewhere : (p q : ℕ → Bool) (c k : ℕ) (v : Bool) → q k ≡ with_at p c v k → q k ≡ true → ((k / 128 ≡ c / 128) → ⊥) → p k ≡ true

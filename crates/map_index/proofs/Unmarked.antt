@@ -6,7 +6,7 @@ use Rattle.mdc_types.specs.Geometry.{Sizes, chunks_of, pages_of, page_of}
 use Rattle.mdc_types.specs.Pages.{with_its_leg, leg_without}
 use Rattle.node_bitmaps.specs.Bitmap.{Bitmap, is_unmarked, missing_marks, is_marked, first_unmarked, unmarked_target}
 use Rattle.node_bitmaps.proofs.SearchLaws.{none_such}
-use Rattle.map_index.proofs.Blocks.{none_between}
+use Rattle.mdc_types.proofs.Blocks.{none_between}
 
 -- each chunk of the set has its marks on the targets
 abbrev pub AllMarked : Sizes → Bitmap → (ℕ → Bool) → Type 0

@@ -1,18 +1,20 @@
 use crate::array::open_world;
 use crate::play::play;
 use crate::status::Status;
-use leg_shelf::MemShelf;
+use leg_shelf::{FolderShelf, MemShelf, Shelf};
 use leg_store::Left;
 use script_text::{MemSink, MemSource, ScriptEnd, read_script};
 use std::alloc::{AllocError, Global};
+use std::fs;
+use std::test::Fail;
 use std::thread::Threads;
 
 // The status of a call with these words, parted by spaces, over this shelf, and what it wrote. The calls
 // of these numbers fail, which count from 0.
-fn called<R: Threads + Sync>(
+fn called<R: Threads + Sync, H: Shelf>(
     rt: &R,
     alloc: Global,
-    shelf: &mut MemShelf,
+    shelf: &mut H,
     words: &str,
     script: &[u8],
     read: u32,
@@ -225,24 +227,34 @@ fn a_world_takes_room(rt: HostRuntime) -> Result<(), AllocError> {
     Ok(())
 }
 
-#[test]
-fn images(rt: HostRuntime) -> Result<(), AllocError> {
-    let mut shelf = MemShelf::new(rt.alloc(), Vec::new(rt.alloc()));
+// Makes these calls over one shelf, and gives the first that ends otherwise.
+fn first_otherwise<R: Threads + Sync, H: Shelf>(
+    rt: &R,
+    alloc: Global,
+    shelf: &mut H,
+) -> Result<Option<&'static str>, AllocError> {
     for (words, script, code, text) in IMAGES {
-        let (status, sink) = called(
-            &rt,
-            rt.alloc(),
-            &mut shelf,
-            words,
-            script.as_bytes(),
-            NEVER,
-            NEVER,
-        )?;
-        assert_eq!(rt; status.code(), *code, "at {words} {script:?}");
-        assert!(rt;
-            sink.bytes().starts_with(text.as_bytes()),
-            "at {words} {script:?}"
-        );
+        let (status, sink) = called(rt, alloc, shelf, words, script.as_bytes(), NEVER, NEVER)?;
+        if status.code() != *code || !sink.bytes().starts_with(text.as_bytes()) {
+            return Ok(Some(*words));
+        }
+    }
+    Ok(None)
+}
+
+// Over a shelf in memory and over the files of a folder, which are the same at the end.
+#[test]
+fn images(rt: HostRuntime) -> Result<(), Fail> {
+    let alloc = rt.alloc();
+    let mut shelf = MemShelf::new(alloc, Vec::new(alloc));
+    assert_eq!(rt; first_otherwise(&rt, alloc, &mut shelf)?, None);
+    let mut folder = FolderShelf::new(&rt);
+    assert_eq!(rt; first_otherwise(&rt, alloc, &mut folder)?, None);
+    for name in ["demo.0", "demo.1", "demo2.0", "demo2.1"] {
+        let held = fs::read(&rt, name)?;
+        fs::remove_file(&rt, name)?;
+        let wanted = shelf.file(name).ok_or("no file")?;
+        assert!(rt; held.as_slice() == wanted.as_slice(), "{name}");
     }
     Ok(())
 }
@@ -295,24 +307,23 @@ fn a_shelf_fails_at_each_call(rt: HostRuntime) -> Result<(), AllocError> {
     Ok(())
 }
 
-// The transfer of leg 1 that fails, the status, and how the text ends. Opening reads its superblock, 64
-// pages and 16 data sectors, and then a failed transfer is an outcome.
-const LEG_FAILS: &[(u32, u8, &str)] = &[
-    (0, 7, "shelf demo.1\n"),
-    (1, 7, "shelf demo.1\n"),
-    (64, 7, "shelf demo.1\n"),
-    (80, 7, "shelf demo.1\n"),
-    (81, 0, "super 1\nunread 1\ndone\n"),
-];
+// Opening makes so many transfers of leg 1: it reads its superblock, 64 pages and 16 data sectors.
+const OPENING: u32 = 81;
 
+// One of leg 1 fails. After the opening a failed transfer is an outcome.
 #[test]
-fn a_leg_fails(rt: HostRuntime) -> Result<(), AllocError> {
+fn a_leg_fails_at_each_transfer(rt: HostRuntime) -> Result<(), AllocError> {
     let script = "images\njoin 0\ngrant token\nload 0 0\nload 0 1\nup 0\nend\n";
-    for (transfer, code, text) in LEG_FAILS {
+    for transfer in 0..=OPENING {
+        let (code, text) = if transfer < OPENING {
+            (7, "shelf demo.1\n")
+        } else {
+            (0, "super 1\nunread 1\ndone\n")
+        };
         let mut shelf = with_images(&rt, rt.alloc(), Vec::new(rt.alloc()))?;
         shelf.fail_leg(
             "demo.1",
-            Vec::from_slice(rt.alloc(), &[(*transfer, Left::Old)])?,
+            Vec::from_slice(rt.alloc(), &[(transfer, Left::Old)])?,
         )?;
         let (status, sink) = called(
             &rt,
@@ -323,7 +334,7 @@ fn a_leg_fails(rt: HostRuntime) -> Result<(), AllocError> {
             NEVER,
             NEVER,
         )?;
-        assert_eq!(rt; status.code(), *code, "at {transfer}");
+        assert_eq!(rt; status.code(), code, "at {transfer}");
         assert!(rt; sink.bytes().ends_with(text.as_bytes()), "at {transfer}");
     }
     Ok(())

@@ -1,4 +1,5 @@
 pub mod Bits
+pub mod Blocks
 pub mod Faults
 pub mod Geometry
 pub mod Names

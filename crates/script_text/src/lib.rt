@@ -31,7 +31,6 @@
 #![tactic(auto)]
 
 mod arguments;
-mod command;
 mod events;
 mod faults;
 mod header;
@@ -50,7 +49,6 @@ mod std_io;
 mod text_out;
 mod wire;
 
-pub use command::{Command, WordsEnd, read_words};
 pub use faults::{FaultKind, ScriptEnd, ScriptFault};
 pub use images::read_images;
 pub use input::{InputEnd, read_input};

@@ -2,7 +2,7 @@ use Rattle.std.proofs.Common.{sym, ◌∙◌, arith}
 use Rattle.dlm_modes.proofs.FirstLaws.{first_such_end}
 use Rattle.node_bitmaps.specs.Map.{bitmap_of, chunks_in}
 use Rattle.map_index.specs.Index.{is_sought}
-use Rattle.map_index.proofs.Blocks.{next_block, found_block}
+use Rattle.mdc_types.proofs.Blocks.{next_block, found_block}
 use Rattle.map_index.proofs.search.first_from.Goals as goal
 
 pub returns-in-Some : goal.returns-in-Some

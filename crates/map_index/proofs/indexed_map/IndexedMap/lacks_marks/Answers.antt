@@ -2,7 +2,7 @@ use Rattle.std.proofs.Common.{◌-◌, sym, ◌∙◌, inl, inr, arith}
 use Rattle.std.proofs.lemmas.Bool.{cases_lt, cases_eq}
 use Rattle.dlm_modes.proofs.FirstLaws.{first_such_none}
 use Rattle.node_bitmaps.specs.Map.{bitmap_of, chunks_in}
-use Rattle.map_index.proofs.Blocks.{found_in, none_is, before_first}
+use Rattle.mdc_types.proofs.Blocks.{found_in, none_is, before_first}
 use Rattle.map_index.proofs.indexed_map.IndexedMap.lacks_marks.Goals as goal
 
 pub unmarked_target-requires : goal.unmarked_target-requires
