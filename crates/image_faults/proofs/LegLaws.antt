@@ -204,9 +204,9 @@ slot_read None g uuid k n set most judged adds = tt
 slot_read (Some leg) g uuid k n set most judged adds = (
   let e : slot_is_wrong g uuid leg k ≡ false = grind (arith, judged) in e,
   λ c. adds.each c
-    ∙ bit_added (get_or (replicate n false) c false) (slot_bit g leg k c) c (chunks_of g) (page_of c) (slot_pages g) (off n c)
-    (λ lt. page_within g.second c (chunks_of g) most lt)
-    (in_array (nat_lt c (chunks_of g)) (page_of c == page_of c) (chunk_bit (page_bytes g leg k (page_of c)) c)),
+      ∙ bit_added (get_or (replicate n false) c false) (slot_bit g leg k c) c (chunks_of g) (page_of c) (slot_pages g) (off n c)
+      (λ lt. page_within g.second c (chunks_of g) most lt)
+      (in_array (nat_lt c (chunks_of g)) (page_of c == page_of c) (chunk_bit (page_bytes g leg k (page_of c)) c)),
 )
 
 -- what isn't there is None
