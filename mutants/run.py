@@ -106,8 +106,10 @@ def crate_of(copy: Path, name: str, where: str, edits: list[Path]) -> str:
         (folder / "proofs" / f"{name_of(file)}.antt").write_text(WORD.sub(here, text))
     (folder / "proofs" / "Lib.antt").write_text("".join(f"pub mod {name_of(it)}\n" for it in files))
     (folder / "src" / "lib.rt").write_text("//! What each way keeps.\n#![tactic(auto)]\n")
+    # the files cite what the crates that they come from stand on
+    below = sorted({name, *[it for crate in {file[0] for file in files} for it in uses()[crate]]})
     with open(copy / "crates.txt", "a") as it:
-        it.write(f"{made}: {' '.join([*uses()[name], name])}\n")
+        it.write(f"{made}: {' '.join(below)}\n")
     return made
 
 
