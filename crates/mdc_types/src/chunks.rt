@@ -111,6 +111,9 @@ impl ChunkSet {
         requires { c < length self.old }
         ensures { self.new ≡ slice_set self.old c false }
     {
+        if !self.has(c) {
+            return;
+        }
         self.flags[c as usize] = false;
         let b = block_of(c);
         self.blocks[b] = has_one(&self.flags, b);
