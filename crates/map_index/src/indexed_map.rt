@@ -1,16 +1,19 @@
-ghost use Rattle.std.specs.Prelude.{◌≡◌, ◌<◌, ◌≤◌, ◌-◌, ◌*◌, ◌/◌, ℕ, true, false, not, ◌&&◌, None, IfOk};
+ghost use Rattle.std.specs.Prelude.{◌≡◌, ◌<◌, ◌≤◌, ◌-◌, ◌*◌, ◌/◌, ℕ, true, false, not, ◌&&◌, None, Some, IfOk, IfSome};
 ghost use Rattle.dlm_modes.specs.First.{first_such};
 ghost use Rattle.mdc_types.specs.Bits.{has_bit};
-ghost use Rattle.mdc_types.specs.Geometry.{Sizes, chunks_of, pages_of};
+ghost use Rattle.mdc_types.specs.Geometry.{Sizes, chunks_of, pages_of, page_of};
+ghost use Rattle.mdc_types.specs.Pages.{leg_without};
 ghost use Rattle.slot_pages.specs.Slot.{page_has};
 ghost use Rattle.node_bitmaps.specs.Bitmap.{empty, with_set, with_need, entered, exited, written, failed, with_new_legs, found_page, forgotten};
-ghost use Rattle.node_bitmaps.specs.Bitmap.{first_set, first_needed, first_unmarked, unmarked_target};
+ghost use Rattle.node_bitmaps.specs.Bitmap.{first_set, first_needed, first_unmarked, is_marked, unmarked_target};
 ghost use Rattle.node_bitmaps.specs.Opened.{opened};
 ghost use Rattle.node_bitmaps.specs.Map.{bitmap_of, chunks_in, pages_in, HasSize};
+ghost use Rattle.map_index.specs.Index.{IsFirstLacking, lesser};
 
 use crate::search::{Sought, first_from, has_one, mark_blocks};
 use mdc_types::{ChunkNo, Geometry, LegId, PageNo, Sector};
 use node_bitmaps::NodeMap;
+use slot_pages::page_of;
 use std::alloc::{AllocError, Global};
 use std::marker::Model;
 
@@ -38,6 +41,16 @@ fn block_of(c: ChunkNo) -> usize
     ensures { result ≡ c / 128 }
 {
     (c / 128) as usize
+}
+
+// The lesser of two legs, where there is another.
+fn lesser(leg: LegId, other: Option<LegId>) -> LegId
+    ensures { result ≡ lesser leg other }
+{
+    match other {
+        Some(other) => leg.min(other),
+        None => leg,
+    }
 }
 
 impl IndexedMap {
@@ -225,19 +238,42 @@ impl IndexedMap {
         mark_blocks(&self.map, Sought::Needed, &mut self.needs);
     }
 
-    // Whether a chunk of the set has no mark on one of the legs.
-    fn lacks_marks(&self, targets: u8) -> bool
-        ensures { result ≡ false → (c : ℕ) → c < chunks_in self.now → (bitmap_of self.now).set c ≡ true
+    // The first chunk of the set that has no mark on one of the legs, and the least such leg.
+    fn first_lacking(&self, targets: u8) -> Option<(ChunkNo, LegId)>
+        ensures none { result ≡ None → (c : ℕ) → c < chunks_in self.now
+            → (bitmap_of self.now).set c ≡ true
             → unmarked_target (bitmap_of self.now) (has_bit targets) c ≡ None }
+        ensures some { IfSome result (λ found.
+            IsFirstLacking (bitmap_of self.now) (has_bit targets) (chunks_in self.now) found.0 found.1) }
     {
         let mut from = 0;
         while let Some(c) = self.first_set_from(from) {
-            if self.map.unmarked_target(targets, c).is_some() {
-                return true;
+            if let Some(leg) = self.map.unmarked_target(targets, c) {
+                return Some((c, leg));
             }
             from = c + 1;
         }
-        false
+        None
+    }
+
+    // The least of the legs where a chunk of the page has no mark, where chunk `c` is the first of all
+    // that has none, and `leg` the least such leg of it.
+    fn least_lacking(&self, targets: u8, c: ChunkNo, leg: LegId) -> LegId
+        requires { IsFirstLacking (bitmap_of self.now) (has_bit targets) (chunks_in self.now) c leg }
+        ensures { (g : Sizes) → HasSize self.now (chunks_of g) (pages_of g)
+            → Some result ≡ leg_without (is_marked g (bitmap_of self.now)) (has_bit targets) (page_of c) }
+    {
+        let page = page_of(c);
+        let mut least = leg;
+        let mut from = c;
+        while let Some(k) = self.first_set_from(from) {
+            if page_of(k) != page {
+                return least;
+            }
+            least = lesser(least, self.map.unmarked_target(targets, k));
+            from = k + 1;
+        }
+        least
     }
 
     /// The first page with a chunk of the set that has no mark on one of the legs, and the least such
@@ -246,9 +282,7 @@ impl IndexedMap {
         ensures { (g : Sizes) → HasSize self.now (chunks_of g) (pages_of g)
             → result ≡ first_unmarked g (bitmap_of self.now) (has_bit targets) }
     {
-        if !self.lacks_marks(targets) {
-            return None;
-        }
-        self.map.first_unmarked(targets)
+        let (c, leg) = self.first_lacking(targets)?;
+        Some((page_of(c), self.least_lacking(targets, c, leg)))
     }
 }

@@ -26,3 +26,24 @@ fn chunks_of_other_blocks(rt: HostRuntime) -> Result<(), Fail> {
     assert_eq!(rt; map.first_needed(), Some(701));
     Ok(())
 }
+
+#[test]
+fn least_leg_of_a_page(rt: HostRuntime) -> Result<(), Fail> {
+    let g = Geometry::new(3, 4096, 1)?;
+    let mut map = IndexedMap::new(rt.alloc(), &g)?;
+    assert!(rt; 4000 < map.map().chunks() && map.map().pages() == 2);
+    // Chunk 10 lacks its mark on leg 2 alone, and the others of its page on more legs.
+    map.set(10);
+    map.page_out(0, 0);
+    map.page_out(0, 1);
+    map.set(3000);
+    assert_eq!(rt; map.first_unmarked(0b111), Some((0, 2)));
+    map.set(2000);
+    assert_eq!(rt; map.first_unmarked(0b111), Some((0, 0)));
+    map.page_out(0, 0);
+    assert_eq!(rt; map.first_unmarked(0b111), Some((0, 1)));
+    map.page_out(0, 1);
+    map.page_out(0, 2);
+    assert_eq!(rt; map.first_unmarked(0b110), Some((1, 1)));
+    Ok(())
+}
