@@ -22,6 +22,8 @@ use Rattle.image_second.specs.Second.{IsReadable}
 use Rattle.image_texts.specs.Lines.{upgraded_text}
 use Rattle.image_ends.specs.Seen.{ShelfSeen}
 use Rattle.image_upgrade.proofs.StoreLaws.{stored_still, stored_all}
+use Rattle.second_opening.proofs.Stored.{files_open_alike}
+use Rattle.image_upgrade.proofs.StandLaws.{stand_alike}
 use Rattle.image_upgrade.specs.Ends.{IsNewEnd, IsOfLeg, is_shelf_fault}
 use Rattle.image_upgrade.specs.Stored.{AreReadable, AreStored, StoredBelow, StoredSome, read_at}
 use Rattle.image_upgrade.specs.Upgrading.{AreOld, AreUpgraded, OthersStand, UpgradeErrs}
@@ -60,7 +62,8 @@ pub upgraded_is : (h : ShelfSeen) (from to text : List ℕ) (images : List LegIm
 upgraded_is h from to text images told mid apart old stored closes is =
     let still = stored_still h.files from to images (length images) mid told (bytes_at old.lengths) apart (few_told h.files from images told old) stored old.opened.opened in
     let same : h.files_after ≡ mid = as_they_were mid h.files_after (leg_names from) told (bytes_at old.lengths) still closes in
-    (images, (told, (old, subst (AreStored to images told (length images) h.files) (sym same) stored, is)))
+    let stand : AreStored to images told (length images) h.files h.files_after = subst (AreStored to images told (length images) h.files) (sym same) stored in
+    (images, (told, (old, stand, stand_alike files_open_alike h.files from to images told h.files_after old stand, is)))
 
 -- Errors.
 

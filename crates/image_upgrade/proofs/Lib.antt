@@ -3,3 +3,4 @@ pub mod BackLaws
 pub mod PutLaws
 pub mod StoreLaws
 pub mod UpgradeLaws
+pub mod StandLaws

@@ -9,6 +9,7 @@ use Rattle.world_state.specs.Told.{legs_of}
 use Rattle.image_faults.specs.declared.faults.ImageError.TheVariants as errors
 use Rattle.image_faults.specs.declared.legs.LegImage.{LegImage}
 use Rattle.image_files.specs.Closed.{OnlyTheseChange}
+use Rattle.image_files.specs.Laws.{WereOpened}
 use Rattle.image_files.specs.Names.{leg_names}
 use Rattle.image_texts.specs.Lines.{image_text, shelf_text, upgraded_text}
 use Rattle.image_opening.specs.Faults.{TellsFault}
@@ -17,6 +18,7 @@ use Rattle.image_opening.specs.declared.versions.Versions.TheVariants.{First}
 use Rattle.image_ends.specs.Seen.{ShelfSeen, ShelfRose}
 use Rattle.image_ends.specs.declared.ends.CommandEnd.{CommandEnd}
 use Rattle.image_ends.specs.declared.ends.CommandEnd.TheVariants as ends
+use Rattle.second_opening.specs.Laws.{second_origin}
 use Rattle.image_upgrade.specs.Stored.{AreStored, StoredBelow}
 use Rattle.image_upgrade.specs.declared.ends.UpgradeError.{UpgradeError}
 use Rattle.image_upgrade.specs.declared.ends.UpgradeError.TheVariants.{Old, New}
@@ -33,12 +35,21 @@ pub record AreOld (files : Option Files) (from : List ℕ) (images : List LegIma
   pub opened : AreOpened files (leg_names from) images told lengths
   pub sound : TellsFiles files → HasImages opening (legs_of told)
 
--- just the new images of all legs were stored, each made of the old one
+-- the files under the new name, opened again, are an array without a fault, which opens with what the
+-- old one opened with, but for the version: so it is where the shelf tells its files
+abbrev pub StandAlike : Origin → Option Files → List ℕ → Option Files → Type 0
+StandAlike o files to new =
+    TellsFiles files
+    → (told : List (Option (List Sector))) (sizes : ℕ → ℕ) → length told ≡ o.sizes.legs
+    → WereOpened new (leg_names to) told sizes → HasImages (second_origin o) (legs_of told)
+
+-- just the new images of all legs were stored, each made of the old one, and they open as these did
 abbrev pub AreUpgraded : ShelfSeen → List ℕ → List ℕ → List ℕ → Type 0
 AreUpgraded h from to text =
     (images : List LegImage) × ((told : List (Option (List Sector)))
-    × (AreOld h.files from images told
+    × ((old : AreOld h.files from images told)
     × AreStored to images told (length images) h.files h.files_after
+    × StandAlike old.opening h.files to h.files_after
     × (text ≡ upgraded_text to (length images))))
 
 -- no other names than those of the old array's legs have changed

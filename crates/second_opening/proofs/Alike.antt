@@ -1,5 +1,5 @@
 -- What upgraded images open with.
-use Rattle.std.proofs.Common.{◌≡◌, ℕ, zero, suc, ◌+◌, ◌-◌, ◌*◌, ◌/◌, ◌%◌, ◌^◌, ◌<◌, ◌≤◌, ◌&&◌, ◌==◌, nat_lt, nat_le, if◌then◌else◌, Bool, true, false, List, [], ◌∷◌, length, get_or, replicate, map, refl, ap, sym, ◌∙◌, subst, arith, inl, inr, Option, Some, None, Ok, is_some, ◌⊎◌}
+use Rattle.std.proofs.Common.{◌≡◌, ℕ, zero, suc, ◌+◌, ◌-◌, ◌*◌, ◌/◌, ◌%◌, ◌^◌, ◌<◌, ◌≤◌, ◌&&◌, ◌==◌, nat_lt, nat_le, if◌then◌else◌, Bool, true, false, List, [], ◌∷◌, length, get_or, replicate, refl, ap, sym, ◌∙◌, subst, arith, inl, inr, Option, Some, None, is_some}
 use Rattle.std.specs.Prelude.{is_none, option_and_then}
 use Rattle.std.proofs.Math.Path.{fun_ext}
 use Rattle.std.proofs.lemmas.Bool.{cases_lt, eqb-true}
@@ -11,16 +11,15 @@ use Rattle.dlm_modes.specs.First.{first_such}
 use Rattle.dlm_modes.proofs.FirstLaws.{first_such_some, first_such_has, first_such_same}
 use Rattle.leg_failure.proofs.SetLaws.{has_bit-past}
 use Rattle.mdc_types.specs.Bits.{has_bit}
-use Rattle.mdc_types.specs.Geometry.{Sizes, length_of, data_offset, nodes_of, slot_pages, chunks_of, page_of, page_sector, most_chunks, chunk_of}
+use Rattle.mdc_types.specs.Geometry.{Sizes, data_offset, nodes_of, chunks_of, page_of, page_sector, chunk_of}
 use Rattle.mdc_types.specs.Sectors.{zero_sector}
-use Rattle.mdc_types.specs.Roles.{role_of, is_working}
+use Rattle.mdc_types.specs.Roles.{is_working}
 use Rattle.mdc_types.specs.declared.numbers.Sector.{Sector}
 use Rattle.md_superblock.specs.Arrays.{Array, Says, super_for, spelled, says_in, says_of, super_in, is_of, version_of, AreBytes, IsWritable}
 use Rattle.md_superblock.specs.Faults.{fault_of}
 use Rattle.md_superblock.specs.Superblock.{IsSuper, super_of}
 use Rattle.md_superblock.specs.declared.superblock.Super.{Super}
 use Rattle.md_superblock.proofs.ArrayLaws.{says_again}
-use Rattle.slot_pages.specs.Laws.{IsUuid}
 use Rattle.slot_pages.specs.Slot.{spelled_page, page_has, chunk_bit}
 use Rattle.slot_pages.proofs.Spelled.{has_the_set, spells_the_set, spells_its_bits}
 use Rattle.slot_pages.proofs.GrammarLaws.{spelled_is_faultless}
@@ -55,7 +54,7 @@ unpacked a l bytes says e =
     says_if (is_of a l (super_of bytes)) (says_of (super_of bytes)) says
     (some_if (is_none (fault_of bytes)) (super_of bytes) (λ s. if is_of a l s then Some (says_of s) else None) says e)
 
-record IsFor (a : Array) (l : ℕ) (s : Super) : Type 0 where
+pub record IsFor (a : Array) (l : ℕ) (s : Super) : Type 0 where
   pub legs : s.geometry_legs ≡ a.sizes.legs
   pub room : s.room ≡ a.sizes.room
   pub version : s.version ≡ version_of a.sizes.second
@@ -80,7 +79,7 @@ is_for a l s e =
     }
 
 -- the new superblock is that of the new array
-second_for : (o : Origin) (l : ℕ) (s : Super) (says : Says) → IsFor (array_of o) l s → says_of s ≡ says
+pub second_for : (o : Origin) (l : ℕ) (s : Super) (says : Says) → IsFor (array_of o) l s → says_of s ≡ says
     → second_super s ≡ super_for (array_of (second_origin o)) l says
 second_for o l s says is said =
     subst (λ t. second_super s ≡ super_for (array_of (second_origin o)) l t) said
@@ -103,7 +102,7 @@ eight_roles : (bytes : List ℕ) → length (super_of bytes).roles.legs ≡ 8
 unfolding super_of
 eight_roles bytes = refl
 
-within : (o : Origin) (images : List LegImage) (old new : Legs) → AreMade o images old new → (l : ℕ) → l < o.sizes.legs → l < length images
+pub within : (o : Origin) (images : List LegImage) (old new : Legs) → AreMade o images old new → (l : ℕ) → l < o.sizes.legs → l < length images
 within o images old new m l lt = subst (λ n. l < n) (sym m.all) lt
 
 -- what was read of a leg is of the array, and says what its superblock says
@@ -118,19 +117,19 @@ is_for_at o images old new m says supers l lt =
     (is_for (array_of o) l (super_of bytes) u.0, u.1)
 
 -- all that is known of the legs
-record Known (o : Origin) (images : List LegImage) (old new : Legs) (says : ℕ → Says) : Type 0 where
+pub record Known (o : Origin) (images : List LegImage) (old new : Legs) (says : ℕ → Says) : Type 0 where
   pub made : AreMade o images old new
   pub for : (l : ℕ) → l < o.sizes.legs → IsFor (array_of o) l (super_at images l)
   pub said : (l : ℕ) → l < o.sizes.legs → says_of (super_at images l) ≡ says l
 
-known : (o : Origin) (images : List LegImage) (old new : Legs) → AreMade o images old new → (h : HasImages o old) → Known o images old new h.says
+pub known : (o : Origin) (images : List LegImage) (old new : Legs) → AreMade o images old new → (h : HasImages o old) → Known o images old new h.says
 known o images old new m h = record {
   made = m;
   for = λ l lt. (is_for_at o images old new m h.says h.supers l lt).0;
   said = λ l lt. (is_for_at o images old new m h.says h.supers l lt).1;
 }
 
-writable : (o : Origin) (images : List LegImage) (old new : Legs) (says : ℕ → Says) → Known o images old new says
+pub writable : (o : Origin) (images : List LegImage) (old new : Legs) (says : ℕ → Says) → Known o images old new says
     → (l : ℕ) → l < o.sizes.legs → IsWritable (super_for (array_of (second_origin o)) l (says l))
 writable o images old new says k l lt =
     let m = k.made in
@@ -156,7 +155,7 @@ version_two : (b : Bool) → (version_of b == 2) ≡ b
 version_two true = refl
 version_two false = refl
 
-same_at : (o : Origin) (images : List LegImage) (old new : Legs) (says : ℕ → Says) → Known o images old new says
+pub same_at : (o : Origin) (images : List LegImage) (old new : Legs) (says : ℕ → Says) → Known o images old new says
     → (l : ℕ) → l < o.sizes.legs → SameSizes (sizes_at images l) o.sizes
 same_at o images old new says k l lt =
     let m = k.made in

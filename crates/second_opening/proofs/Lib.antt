@@ -1,1 +1,4 @@
 pub mod Alike
+pub mod Stored
+pub mod Chunk
+pub mod Names

@@ -3,4 +3,4 @@
 
 mod laws;
 
-pub use laws::upgraded_images_open_alike;
+pub use laws::{upgraded_files_open_alike, upgraded_images_open_alike};
