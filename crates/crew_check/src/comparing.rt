@@ -44,7 +44,8 @@ fn first_found(found: &[Option<usize>]) -> Option<usize>
 }
 
 /// The first place in which two rows of sectors differ, None exactly where all are equal. Blocks of
-/// them are compared in as many threads as there are processors. `Err` is want of memory.
+/// them are compared in as many threads as there are processors, and a single block at once. `Err` is
+/// want of memory.
 pub fn compare<R: Threads + Sync>(
     rt: &R,
     alloc: Global,
@@ -54,6 +55,9 @@ pub fn compare<R: Threads + Sync>(
     requires { length b.now ≡ length a.now }
     ensures { IfOk result (λ place. place ≡ first_difference a.now b.now) }
 {
+    if a.len() <= BLOCK {
+        return Ok(compare_alone(a, b));
+    }
     let found: Vec<Option<usize>> = (0..blocks_of(a.len()))
         .into_par_iter()
         .map(

@@ -2,6 +2,7 @@ pub mod Fields
 pub mod AgreementLaws
 pub mod NextLegs
 pub mod HeadLaws
+pub mod RowsLaws
 pub mod ValueLaws
 pub mod Blocks
 pub mod Opened

@@ -10,6 +10,7 @@ use Rattle.mdc_types.specs.Geometry.{nodes_of, chunk_of}
 use Rattle.mdc_types.specs.Sectors.{zero_sector}
 use Rattle.mdc_types.specs.declared.numbers.Sector.{Sector}
 use Rattle.mdc_types.specs.declared.roles.Roles.{Roles}
+use Rattle.image_faults.specs.Compare.{first_difference}
 use Rattle.image_faults.specs.declared.faults.ImageFault.TheVariants.{Unmarked}
 use Rattle.image_faults.specs.declared.faults.ImageError.{ImageError}
 use Rattle.image_faults.specs.declared.faults.ImageError.TheVariants.{Image, Shelf, Device, Memory}
@@ -82,6 +83,11 @@ in_rows rows from l s = get_or (get_or rows l []) (s - from) zero_sector
 pub record AreRows (roles : Roles) (count : ℕ) (rows : List (List Sector)) : Type 0 where
   pub there : (l : ℕ) → l < 8 → works roles l ≡ true → l < length rows
   pub long : (l : ℕ) → l < 8 → works roles l ≡ true → length (get_or rows l []) ≡ count
+
+-- leg l has the row of the first leg that works, if it works itself
+abbrev pub HasFirstRow : Roles → List (List Sector) → ℕ → Type 0
+HasFirstRow roles rows l = works roles l ≡ true
+    → first_difference (get_or rows l []) (get_or rows (first_working roles) []) ≡ None
 
 -- to the values of the sectors below `from` came those of so many more
 pub record AddsValues (h : Head) (stored : ℕ → ℕ → Sector) (from count : ℕ)

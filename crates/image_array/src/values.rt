@@ -1,17 +1,19 @@
-ghost use Rattle.std.specs.Prelude.{◌≡◌, ◌<◌, ◌≤◌, ◌+◌, ◌-◌, ◌++◌, ◌∷◌, [], map, length, vec_len, IfOk, OnOk, get_or};
+ghost use Rattle.std.specs.Prelude.{◌≡◌, ◌<◌, ◌≤◌, ◌+◌, ◌-◌, ◌++◌, ◌∷◌, [], ℕ, false, map, length, vec_len, IfOk, OnOk, get_or};
 ghost use Rattle.std.specs.List.{list_any};
 ghost use Rattle.std.specs.Str.{bytes_eq};
 ghost use Rattle.mdc_types.specs.Geometry.{chunk_of};
 ghost use Rattle.cluster_model.specs.Contents.{with_new};
 ghost use Rattle.image_array.specs.Legs.{AreAll};
 ghost use Rattle.image_array.specs.Heads.{IsHead};
-ghost use Rattle.image_array.specs.Values.{AreRows, AddsValues, JudgesData, differing_leg, differs, first_working, in_rows, is_marked, unmarked_leg, values_of};
+ghost use Rattle.image_array.specs.Values.{AreRows, AddsValues, HasFirstRow, JudgesData, differing_leg, differs, first_working, in_rows, is_marked, unmarked_leg, values_of};
 
 use crate::Head;
 use crate::marks::{is_marked, works};
+use crew_check::compare;
 use image_faults::{ImageError, ImageFault, LegImage};
 use mdc_types::{LegId, Roles, Sector, SectorNo};
 use std::alloc::{AllocError, Global};
+use std::thread::Threads;
 
 // The least leg that works.
 fn first_working(roles: &Roles) -> LegId
@@ -32,6 +34,49 @@ fn row_of(rows: &[Vec<Sector>], l: LegId) -> &[Sector]
     ensures { result.now ≡ get_or (map (λ row. row.items) rows.now) l [] }
 {
     rows[l as usize].as_slice()
+}
+
+// Whether leg `l` works and its row differs from that of the first leg that works.
+#[tactic(auto, using(crate::proofs::ValueLaws::row_there, crate::proofs::ValueLaws::first_there, crate::proofs::RowsLaws::as_long, crate::proofs::RowsLaws::first_has))]
+fn row_differs<R: Threads + Sync>(
+    rt: &R,
+    alloc: Global,
+    roles: &Roles,
+    rows: &[Vec<Sector>],
+    count: u32,
+    l: LegId,
+) -> Result<bool, AllocError>
+    requires rows { AreRows roles.now count (map (λ row. row.items) rows.now) }
+    requires leg { l < 8 }
+    ensures { IfOk result (λ differs. differs ≡ false
+        → HasFirstRow roles.now (map (λ row. row.items) rows.now) l) }
+{
+    let first = first_working(roles);
+    if !works(roles, l) || l == first {
+        return Ok(false);
+    }
+    let place = compare(rt, alloc, row_of(rows, l), row_of(rows, first))?;
+    Ok(place.is_some())
+}
+
+// Whether the rows of some legs that work differ.
+fn rows_differ<R: Threads + Sync>(
+    rt: &R,
+    alloc: Global,
+    roles: &Roles,
+    rows: &[Vec<Sector>],
+    count: u32,
+) -> Result<bool, AllocError>
+    requires { AreRows roles.now count (map (λ row. row.items) rows.now) }
+    ensures { IfOk result (λ differ. differ ≡ false
+        → (l : ℕ) → l < 8 → HasFirstRow roles.now (map (λ row. row.items) rows.now) l) }
+{
+    for l in 0..8 {
+        if row_differs(rt, alloc, roles, rows, count, l)? {
+            return Ok(true);
+        }
+    }
+    Ok(false)
 }
 
 // What leg `l` has at sector `s`, in rows that begin with sector `from`.
@@ -124,6 +169,34 @@ fn unmarked_leg(
     }
 }
 
+// The same, where it is known whether rows differ: it is looked for only if so.
+fn told_leg(
+    head: &Head,
+    images: &[LegImage],
+    rows: &[Vec<Sector>],
+    from: SectorNo,
+    count: u32,
+    differ: bool,
+    s: SectorNo,
+) -> Option<LegId>
+    requires legs { AreAll images.now }
+    requires head { IsHead images.now head.now }
+    requires rows { AreRows head.now.roles count (map (λ row. row.items) rows.now) }
+    requires same { differ ≡ false
+        → (l : ℕ) → l < 8 → HasFirstRow head.now.roles (map (λ row. row.items) rows.now) l }
+    requires after { from ≤ s }
+    requires before { s < from + count }
+    requires within { s < head.now.geometry.room }
+    ensures { let stored = in_rows (map (λ row. row.items) rows.now) from in
+        result ≡ unmarked_leg head.now images.now stored s }
+{
+    if differ {
+        unmarked_leg(head, images, rows, from, count, s)
+    } else {
+        None
+    }
+}
+
 fn is_among(values: &[Sector], value: &Sector) -> bool
     ensures { result ≡ list_any (λ old. bytes_eq value.now.bytes old.bytes) values.now }
 {
@@ -186,7 +259,10 @@ fn push_values(base: &mut Vec<Vec<Sector>>, values: Vec<Sector>) -> Result<(), A
 /// `Image` with `Unmarked` at the first sector in which legs that work differ while no slot on a leg
 /// that works marks its chunk. It is told with the first leg that works and differs there from the
 /// first leg that works. Else `Memory`. The base has the values of earlier sectors then.
-pub fn add_values(
+///
+/// The rows are compared first, and only where some differ it is looked sector by sector.
+pub fn add_values<R: Threads + Sync>(
+    rt: &R,
     alloc: Global,
     head: &Head,
     images: &[LegImage],
@@ -206,8 +282,9 @@ pub fn add_values(
         OnOk result (AddsValues head.now stored from count
         (map (λ values. values.items) base.old.items) (map (λ values. values.items) base.new.items)) }
 {
+    let differ = rows_differ(rt, alloc, &head.roles, rows, count)?;
     for s in from..from + count {
-        if let Some(l) = unmarked_leg(head, images, rows, from, count, s) {
+        if let Some(l) = told_leg(head, images, rows, from, count, differ, s) {
             return Err(ImageError::Image(l, ImageFault::Unmarked(s)));
         }
         let values = values_at(alloc, &head.roles, rows, from, count, s)?;

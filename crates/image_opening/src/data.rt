@@ -10,12 +10,14 @@ use image_files::read_rows;
 use leg_store::LegDev;
 use mdc_types::{Sector, SectorNo};
 use std::alloc::Global;
+use std::thread::Threads;
 
 // The sectors that are read of each leg at a time.
 const BLOCK: u32 = 64;
 
 // Takes in the data of so many sectors from `from` on.
-fn add_block<L: LegDev>(
+fn add_block<R: Threads + Sync, L: LegDev>(
+    rt: &R,
     alloc: Global,
     head: &Head,
     images: &[LegImage],
@@ -41,11 +43,12 @@ fn add_block<L: LegDev>(
 {
     let at = head.geometry.data_offset() + from;
     let rows = read_rows(alloc, legs, &head.roles, at, count)?;
-    add_values(alloc, head, images, &rows, from, count, base)
+    add_values(rt, alloc, head, images, &rows, from, count, base)
 }
 
 /// The values of all data sectors, each of which is read once of each leg that works.
-pub(crate) fn read_base<L: LegDev>(
+pub(crate) fn read_base<R: Threads + Sync, L: LegDev>(
+    rt: &R,
     alloc: Global,
     head: &Head,
     images: &[LegImage],
@@ -68,7 +71,7 @@ pub(crate) fn read_base<L: LegDev>(
     for block in 0..room.div_ceil(BLOCK) {
         let from = BLOCK * block;
         let count = (room - from).min(BLOCK);
-        add_block(alloc, head, images, legs, from, count, &mut base)?;
+        add_block(rt, alloc, head, images, legs, from, count, &mut base)?;
     }
     Ok(base)
 }

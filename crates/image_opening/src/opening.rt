@@ -22,6 +22,7 @@ use leg_shelf::Shelf;
 use leg_store::LegDev;
 use mdc_types::Sector;
 use std::alloc::Global;
+use std::thread::Threads;
 use world_openings::Opening;
 
 /// An array whose images were opened.
@@ -51,7 +52,8 @@ fn opening_of(head: Head, base: Vec<Vec<Sector>>) -> Opening
 }
 
 // What the legs that were read open with, by all their data.
-fn read_array<L: LegDev>(
+fn read_array<R: Threads + Sync, L: LegDev>(
+    rt: &R,
     alloc: Global,
     legs: &mut Vec<L>,
     images: &[LegImage],
@@ -72,12 +74,13 @@ fn read_array<L: LegDev>(
     ensures size { map L.size legs.new.items ≡ map L.size legs.old.items }
 {
     let head = head_of(images);
-    let base = read_base(alloc, &head, images, legs)?;
+    let base = read_base(rt, alloc, &head, images, legs)?;
     Ok(opening_of(head, base))
 }
 
 // Opens and reads all legs, and their data.
-fn open_all<H: Shelf>(
+fn open_all<R: Threads + Sync, H: Shelf>(
+    rt: &R,
     alloc: Global,
     shelf: &mut H,
     names: &FileNames,
@@ -103,7 +106,7 @@ fn open_all<H: Shelf>(
     ensures cause { HasCause is_shelf_fault (H.faults shelf.old) (H.faults shelf.new) result }
 {
     open_legs(alloc, shelf, names, versions, legs, images)?;
-    read_array(alloc, legs, images.as_slice())
+    read_array(rt, alloc, legs, images.as_slice())
 }
 
 /// Opens the images of the array of this name: the files of its legs in their order, and of each its
@@ -115,7 +118,8 @@ fn open_all<H: Shelf>(
 /// shelf's count of faults rose, `Device` only where a leg failed, whose count is among those of the
 /// shelf then, and `Memory`. After an error all legs that were opened were given back, and of other
 /// names nothing has changed.
-pub fn open_array<H: Shelf>(
+pub fn open_array<R: Threads + Sync, H: Shelf>(
+    rt: &R,
     alloc: Global,
     shelf: &mut H,
     name: &str,
@@ -149,7 +153,7 @@ pub fn open_array<H: Shelf>(
     let names = FileNames::new(alloc, name)?;
     let mut legs = Vec::new(alloc);
     let mut images = Vec::new(alloc);
-    match open_all(alloc, shelf, &names, versions, &mut legs, &mut images) {
+    match open_all(rt, alloc, shelf, &names, versions, &mut legs, &mut images) {
         Ok(opening) => Ok(Opened {
             opening,
             legs,

@@ -24,7 +24,7 @@ fn created(alloc: Global, second: bool) -> Result<MemShelf, Fail> {
 fn opens_an_array(rt: HostRuntime) -> Result<(), Fail> {
     let alloc = rt.alloc();
     let mut shelf = created(alloc, false)?;
-    let array = open_array(alloc, &mut shelf, "demo", Versions::First)?;
+    let array = open_array(&rt, alloc, &mut shelf, "demo", Versions::First)?;
     assert_eq!(rt; array.legs.len(), 2);
     assert_eq!(rt; array.images.len(), 2);
     assert_eq!(rt; array.opening.base().len(), 70);
@@ -50,16 +50,16 @@ fn one_byte_is_another(rt: HostRuntime) -> Result<(), Fail> {
         }
         shelf.put("demo.1", bytes)?;
         assert_eq!(rt;
-            open_array(alloc, &mut shelf, "demo", Versions::Any).err(),
+            open_array(&rt, alloc, &mut shelf, "demo", Versions::Any).err(),
             Some(ImageError::Image(1, fault))
         );
     }
     let mut shelf = created(alloc, true)?;
     assert_eq!(rt;
-        open_array(alloc, &mut shelf, "demo", Versions::First).err(),
+        open_array(&rt, alloc, &mut shelf, "demo", Versions::First).err(),
         Some(ImageError::Image(0, ImageFault::Upgraded))
     );
-    assert!(rt; open_array(alloc, &mut shelf, "demo", Versions::Any).is_ok());
+    assert!(rt; open_array(&rt, alloc, &mut shelf, "demo", Versions::Any).is_ok());
     Ok(())
 }
 
@@ -71,12 +71,12 @@ fn leg_fails(rt: HostRuntime) -> Result<(), Fail> {
     for transfer in [0, 64, 65, 134] {
         shelf.fail_leg("demo.1", vec![in alloc; (transfer, Left::Old)]?)?;
         assert_eq!(rt;
-            open_array(alloc, &mut shelf, "demo", Versions::Any).err(),
+            open_array(&rt, alloc, &mut shelf, "demo", Versions::Any).err(),
             Some(ImageError::Device(1)),
             "transfer {transfer}"
         );
     }
     shelf.fail_leg("demo.1", vec![in alloc; (135, Left::Old)]?)?;
-    assert!(rt; open_array(alloc, &mut shelf, "demo", Versions::Any).is_ok());
+    assert!(rt; open_array(&rt, alloc, &mut shelf, "demo", Versions::Any).is_ok());
     Ok(())
 }

@@ -163,7 +163,7 @@ pub fn play_images<R: Threads + Sync, H: Shelf, K: Sink>(
     let Ok(names) = FileNames::new(alloc, name) else {
         return ImagesEnd::Memory;
     };
-    match open_array(alloc, shelf, name, Versions::Any) {
+    match open_array(rt, alloc, shelf, name, Versions::Any) {
         Ok(
             Opened {
                 opening,

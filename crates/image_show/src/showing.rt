@@ -14,9 +14,15 @@ use image_texts::show_text;
 use leg_shelf::Shelf;
 use script_text::Sink;
 use std::alloc::Global;
+use std::thread::Threads;
 
 // The text of the images of the array, all of whose legs were given back.
-fn shown<H: Shelf>(alloc: Global, shelf: &mut H, name: &str) -> Result<String, ImageError>
+fn shown<R: Threads + Sync, H: Shelf>(
+    rt: &R,
+    alloc: Global,
+    shelf: &mut H,
+    name: &str,
+) -> Result<String, ImageError>
     ensures text { IfOk result (λ text. (images : List LegImage)
         × (AreShown (H.contents shelf.old) name.now images
         × (string_bytes text ≡ show_text images))) }
@@ -37,7 +43,7 @@ fn shown<H: Shelf>(alloc: Global, shelf: &mut H, name: &str) -> Result<String, I
         opening: _,
         legs,
         images,
-    } = open_array(alloc, shelf, name, Versions::Any)?;
+    } = open_array(rt, alloc, shelf, name, Versions::Any)?;
     let text = show_text(alloc, images.as_slice());
     close(alloc, shelf, name, legs)?;
     Ok(text?)
@@ -50,7 +56,8 @@ fn shown<H: Shelf>(alloc: Global, shelf: &mut H, name: &str) -> Result<String, I
 /// The lines are printed only once all images were read and given back. `Image` with the first fault of
 /// the images; `Shelf` where the shelf failed in a call on that leg's file, or that leg failed; `Write`
 /// where a write failed; and `Memory`.
-pub fn show_images<H: Shelf, K: Sink>(
+pub fn show_images<R: Threads + Sync, H: Shelf, K: Sink>(
+    rt: &R,
     alloc: Global,
     shelf: &mut H,
     sink: &mut K,
@@ -74,7 +81,7 @@ pub fn show_images<H: Shelf, K: Sink>(
     ensures shelf_later { H.faults shelf.old ≤ H.faults shelf.new }
     ensures sink_later { K.faults sink.old ≤ K.faults sink.new }
 {
-    match shown(alloc, shelf, name) {
+    match shown(rt, alloc, shelf, name) {
         Ok(text) => tell(sink, text.as_str(), CommandEnd::Done),
         Err(error) => tell_error(alloc, sink, name, error),
     }

@@ -17,7 +17,7 @@ fn shows_new_images(rt: HostRuntime) -> Result<(), Fail> {
     );
     let mut sink = MemSink::new(alloc, 1024, Vec::new(alloc))?;
     assert_eq!(rt;
-        show_images(alloc, &mut shelf, &mut sink, "demo"),
+        show_images(&rt, alloc, &mut shelf, &mut sink, "demo"),
         CommandEnd::Done
     );
     let first = b"leg 0 events 1 roles WW sum 1899b4ef\nslot 0 0 set -\n";

@@ -26,7 +26,7 @@ fn upgrades(rt: HostRuntime) -> Result<(), Fail> {
     let mut shelf = created(alloc, Vec::new(alloc))?;
     let mut sink = MemSink::new(alloc, 64, Vec::new(alloc))?;
     assert_eq!(rt;
-        upgrade_images(alloc, &mut shelf, &mut sink, "demo", "demo2"),
+        upgrade_images(&rt, alloc, &mut shelf, &mut sink, "demo", "demo2"),
         CommandEnd::Done
     );
     assert_eq!(rt;
@@ -43,7 +43,7 @@ fn upgrades(rt: HostRuntime) -> Result<(), Fail> {
     }
     let mut again = MemSink::new(alloc, 64, Vec::new(alloc))?;
     assert_eq!(rt;
-        upgrade_images(alloc, &mut shelf, &mut again, "demo2", "demo3"),
+        upgrade_images(&rt, alloc, &mut shelf, &mut again, "demo2", "demo3"),
         CommandEnd::Image(0, ImageFault::Upgraded)
     );
     assert_eq!(rt; again.bytes(), b"image 0 upgraded\n".as_slice());
@@ -57,7 +57,7 @@ fn tells_the_new_file(rt: HostRuntime) -> Result<(), Fail> {
     let mut shelf = created(alloc, vec![in alloc; 7]?)?;
     let mut sink = MemSink::new(alloc, 64, Vec::new(alloc))?;
     assert_eq!(rt;
-        upgrade_images(alloc, &mut shelf, &mut sink, "demo", "demo2"),
+        upgrade_images(&rt, alloc, &mut shelf, &mut sink, "demo", "demo2"),
         CommandEnd::ShelfTo(1)
     );
     assert_eq!(rt; sink.bytes(), b"shelf demo2.1\n".as_slice());

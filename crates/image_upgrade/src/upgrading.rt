@@ -16,9 +16,11 @@ use image_opening::{Opened, Versions, open_array};
 use leg_shelf::Shelf;
 use script_text::Sink;
 use std::alloc::Global;
+use std::thread::Threads;
 
 // Stores the new images, and gives the old legs back. The text is that of the new images.
-fn upgraded<H: Shelf>(
+fn upgraded<R: Threads + Sync, H: Shelf>(
+    rt: &R,
     alloc: Global,
     shelf: &mut H,
     from: &str,
@@ -50,7 +52,7 @@ fn upgraded<H: Shelf>(
         opening: _,
         mut legs,
         images,
-    } = open_array(alloc, shelf, from, Versions::First)?;
+    } = open_array(rt, alloc, shelf, from, Versions::First)?;
     match store_all(alloc, shelf, to, &images, &mut legs) {
         Ok(text) => {
             close_all(shelf, &names, legs)?;
@@ -98,7 +100,8 @@ fn tell_upgrade<K: Sink>(
 /// already; `Shelf` where the shelf failed in a call on that leg's file under `from`, or that leg failed;
 /// `ShelfTo` where it failed in a call on that leg's file under `to`; `Write` where a write failed; and
 /// `Memory`. The new images of lower legs may then be stored, and after `Write` all of them may be.
-pub fn upgrade_images<H: Shelf, K: Sink>(
+pub fn upgrade_images<R: Threads + Sync, H: Shelf, K: Sink>(
+    rt: &R,
     alloc: Global,
     shelf: &mut H,
     sink: &mut K,
@@ -124,7 +127,7 @@ pub fn upgrade_images<H: Shelf, K: Sink>(
     ensures shelf_later { H.faults shelf.old ≤ H.faults shelf.new }
     ensures sink_later { K.faults sink.old ≤ K.faults sink.new }
 {
-    match upgraded(alloc, shelf, from, to) {
+    match upgraded(rt, alloc, shelf, from, to) {
         Ok(text) => tell(sink, text.as_str(), CommandEnd::Done),
         Err(error) => tell_upgrade(alloc, sink, from, to, error),
     }

@@ -6,7 +6,7 @@ use Rattle.image_opening.proofs.DataLaws.{rows_there, base_grows, judged_ends}
 use Rattle.image_opening.proofs.data.add_block.Goals as goal
 
 pub add_values-requires-clause-rows : goal.add_values-requires-clause-rows
-add_values-requires-clause-rows g c =
+add_values-requires-clause-rows g c κs within =
     let told = map g.L.LegDev.contents c.args.legs.now.items in
     let many : length told ≡ length c.args.images.now = length-map c.args.legs.now.items g.L.LegDev.contents ∙ c.requires.many in
     subst (λ rows. AreRows c.args.head.now.roles c.args.count (map (λ row. row.items) rows)) (sym c.deref.ensures.value)

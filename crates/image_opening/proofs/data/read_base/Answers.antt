@@ -13,12 +13,12 @@ loop-block-init g c = record {
 }
 
 pub add_block-requires-clause-many : goal.add_block-requires-clause-many
-add_block-requires-clause-many g c =
+add_block-requires-clause-many g c κs within =
     sym (length-map c.loop-block.legs.items g.L.LegDev.contents) ∙ ap length c.loop-block.invariant.contents
     ∙ length-map c.args.legs.now.items g.L.LegDev.contents ∙ c.requires.many
 
 pub add_block-requires-clause-base : goal.add_block-requires-clause-base
-add_block-requires-clause-base g c =
+add_block-requires-clause-base g c κs within =
     let room = c.args.head.now.geometry.room in
     let e : min (64 * c.loop-block.block) room ≡ 64 * c.loop-block.block = omega arith in
     subst (λ told. HaveBase told c.args.head.now c.args.images.now (64 * c.loop-block.block) (map (λ values. values.items) c.loop-block.base.items)) (sym c.loop-block.invariant.contents)
