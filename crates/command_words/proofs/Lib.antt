@@ -1,2 +1,4 @@
+mod ClapWords
+mod DashedWords
 mod NameLaws
-mod WordsLaws
+mod Saying

@@ -1,12 +1,12 @@
 -- The commands, as a function of the program's words.
-use Rattle.std.specs.Prelude.{◌≢◌, ℕ, Bool, true, false, not, if◌then◌else◌, List, [], ◌∷◌, codes, Option, Some, None, Result, Ok, Err, ok_or}
+use Rattle.std.specs.Prelude.{◌≡◌, ◌≢◌, ℕ, Bool, true, false, not, if◌then◌else◌, List, [], ◌∷◌, codes, Option, Some, None, Result, Ok, Err, ok_or}
 use Rattle.std.specs.Str.{bytes_eq}
 use Rattle.mdc_types.specs.Geometry.{Sizes}
 use Rattle.script_text.specs.Steps.{◌>>=◌, guarded}
 use Rattle.command_words.specs.declared.command.Command.{Command}
 use Rattle.command_words.specs.declared.command.Command.TheVariants as commands
 use Rattle.command_words.specs.declared.command.WordsEnd.{WordsEnd}
-use Rattle.command_words.specs.declared.command.WordsEnd.TheVariants.{Usage}
+use Rattle.command_words.specs.declared.command.WordsEnd.TheVariants.{Usage, Memory}
 use Rattle.command_words.specs.Words.{one, two}
 use Rattle.command_words.specs.Names.{name_of, IsArrayName}
 use Rattle.command_words.specs.Arrays.{uuid_of, sizes_of}
@@ -104,6 +104,16 @@ value_of commands.Wire = Wire
 abbrev pub answer_of : Result Command WordsEnd → Result CommandValue WordsEnd
 answer_of (Err end) = Err end
 answer_of (Ok command) = Ok (value_of command)
+
+-- The command was read: it says what is wanted, unless memory was wanting.
+abbrev pub SaysAs : Result CommandValue WordsEnd → Result Command WordsEnd → Type 0
+SaysAs wanted (Err Memory) = Unit {0}
+SaysAs wanted (Err Usage) = answer_of (Err Usage) ≡ wanted
+SaysAs wanted (Ok command) = answer_of (Ok command) ≡ wanted
+
+-- the words were read
+abbrev pub IsRead : List (List ℕ) → Result Command WordsEnd → Type 0
+IsRead words = SaysAs (command_of words)
 
 -- each name of the command is a name of an array, and two of them differ
 abbrev pub HasNames : Command → Type 0

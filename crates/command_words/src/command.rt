@@ -1,4 +1,8 @@
+ghost use Rattle.std.specs.Prelude.{◌≡◌};
+ghost use Rattle.command_words.specs.declared.command.WordsEnd.TheVariants.{Memory};
+
 use mdc_types::Geometry;
+use std::alloc::AllocError;
 
 /// What the program is to do. Names of arrays are 1 to 31 ASCII letters, digits or `_`.
 ///
@@ -33,9 +37,19 @@ pub enum Command<'a> {
     Wire,
 }
 
-/// Why words are no command.
+/// Why no command was read.
 #[derive(Clone, Copy, PartialEq, Eq, Debug)]
 pub enum WordsEnd {
     /// The words are none of those lines, or the numbers are those of no array.
     Usage,
+    /// Memory was wanting, and nothing is said of the words.
+    Memory,
+}
+
+impl From<AllocError> for WordsEnd {
+    fn from(_: AllocError) -> WordsEnd
+        ensures { result ≡ Memory }
+    {
+        WordsEnd::Memory
+    }
 }

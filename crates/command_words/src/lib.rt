@@ -17,9 +17,9 @@
 
 mod arrays;
 mod command;
+mod grammar;
 mod names;
 mod reading;
-mod words;
 
 pub use command::{Command, WordsEnd};
 pub use reading::read_words;

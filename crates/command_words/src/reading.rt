@@ -1,12 +1,19 @@
-ghost use Rattle.std.specs.Prelude.{◌≡◌, map, IfOk, IfSome, true, false};
+ghost use Rattle.std.specs.Prelude.{◌≡◌, drop, map, IfOk, IfSome, ok_or, true, false};
 ghost use Rattle.std.specs.Option.{option_map};
+ghost use Rattle.std.specs.List.{list_all};
 ghost use Rattle.std.specs.String.{string_bytes};
-ghost use Rattle.command_words.specs.Commands.{created_of, create_of, show_of, play_of, upgrade_of, locks_of, wire_of, command_with, command_of, value_of, answer_of, HasNames};
+ghost use Rattle.clap.specs.Words.{found_of, rows_of};
+ghost use Rattle.command_words.specs.Grammar.{is_plain};
+ghost use Rattle.command_words.specs.InRows.{create_in, show_in, play_in, upgrade_in};
+ghost use Rattle.command_words.specs.Commands.{created_of, create_of, show_of, play_of, upgrade_of, locks_of, wire_of, command_with, value_of, SaysAs, IsRead, HasNames};
+ghost use Rattle.command_words.specs.declared.command.WordsEnd.TheVariants.{Usage};
 
 use crate::arrays::{geometry, uuid};
+use crate::grammar::{are_plain, found, word_in, word_or};
 use crate::names::array_name;
-use crate::words::{one, two, word_at};
-use crate::{Command, WordsEnd};
+use crate::{Command, WordsEnd, grammar};
+use clap::ArgMatches;
+use std::alloc::Global;
 
 fn created<'a>(
     second: bool,
@@ -31,99 +38,160 @@ fn created<'a>(
     })
 }
 
-fn create(second: bool, args: &[String]) -> Option<Command<'_>>
-    ensures value { option_map value_of result ≡ create_of second (map string_bytes args.now) }
+fn read_create<'a>(second: bool, found: &ArgMatches<'a>) -> Option<Command<'a>>
+    ensures value { option_map value_of result ≡ create_in second (rows_of (found_of found.now)) }
     ensures names { IfSome result HasNames }
 {
-    // Where the room stands: it is the size where it is left out.
-    let room = match args.len() {
-        5 => 2,
-        6 => 5,
-        _ => return None,
-    };
+    let sectors = word_or(found, "SECTORS", "");
     created(
         second,
-        word_at(args, 0),
-        word_at(args, 1),
-        word_at(args, 2),
-        word_at(args, room),
-        word_at(args, 3),
-        word_at(args, 4),
+        word_or(found, "NAME", ""),
+        word_or(found, "LEGS", ""),
+        sectors,
+        word_or(found, "ROOM", sectors),
+        word_or(found, "CHUNK", ""),
+        word_or(found, "UUID", ""),
     )
 }
 
-fn show(args: &[String]) -> Option<Command<'_>>
-    ensures value { option_map value_of result ≡ show_of (map string_bytes args.now) }
+fn read_show<'a>(found: &ArgMatches<'a>) -> Option<Command<'a>>
+    ensures value { option_map value_of result ≡ show_in (rows_of (found_of found.now)) }
     ensures names { IfSome result HasNames }
 {
-    let name = array_name(one(args)?)?;
+    let name = array_name(word_or(found, "NAME", ""))?;
     Some(Command::Show { name })
 }
 
-fn play(args: &[String]) -> Option<Command<'_>>
-    ensures value { option_map value_of result ≡ play_of (map string_bytes args.now) }
+fn read_play<'a>(found: &ArgMatches<'a>) -> Option<Command<'a>>
+    ensures value { option_map value_of result ≡ play_in (rows_of (found_of found.now)) }
     ensures names { IfSome result HasNames }
 {
-    if args.is_empty() {
+    let Some(word) = word_in(found, "NAME") else {
         return Some(Command::Play);
-    }
-    let name = array_name(one(args)?)?;
+    };
+    let name = array_name(word)?;
     Some(Command::PlayImages { name })
 }
 
-fn upgrade(args: &[String]) -> Option<Command<'_>>
-    ensures value { option_map value_of result ≡ upgrade_of (map string_bytes args.now) }
+fn read_upgrade<'a>(found: &ArgMatches<'a>) -> Option<Command<'a>>
+    ensures value { option_map value_of result ≡ upgrade_in (rows_of (found_of found.now)) }
     ensures names { IfSome result HasNames }
 {
-    let (word, other) = two(args)?;
-    let name = array_name(word)?;
-    let to = array_name(other)?;
+    let name = array_name(word_or(found, "NAME", ""))?;
+    let to = array_name(word_or(found, "TO", ""))?;
     if name == to {
         return None;
     }
     Some(Command::Upgrade { name, to })
 }
 
-fn locks(args: &[String]) -> Option<Command<'_>>
-    ensures value { option_map value_of result ≡ locks_of (map string_bytes args.now) }
-    ensures names { IfSome result HasNames }
+fn create<'a>(
+    alloc: Global,
+    second: bool,
+    word: &'a str,
+    words: &'a [String],
+) -> Result<Command<'a>, WordsEnd>
+    requires plain { list_all is_plain (drop 1 (map string_bytes words.now)) ≡ true }
+    ensures value { SaysAs
+        (ok_or (create_of second (drop 1 (map string_bytes words.now))) Usage) result }
+    ensures names { IfOk result HasNames }
 {
-    if !args.is_empty() {
-        return None;
+    match found(grammar::create(alloc, word), words) {
+        Ok(found) => match read_create(second, &found) {
+            Some(command) => Ok(command),
+            None => Err(WordsEnd::Usage),
+        },
+        Err(end) => Err(end),
     }
-    Some(Command::Locks)
 }
 
-fn wire(args: &[String]) -> Option<Command<'_>>
-    ensures value { option_map value_of result ≡ wire_of (map string_bytes args.now) }
-    ensures names { IfSome result HasNames }
+fn show<'a>(alloc: Global, word: &'a str, words: &'a [String]) -> Result<Command<'a>, WordsEnd>
+    requires plain { list_all is_plain (drop 1 (map string_bytes words.now)) ≡ true }
+    ensures value { SaysAs (ok_or (show_of (drop 1 (map string_bytes words.now))) Usage) result }
+    ensures names { IfOk result HasNames }
 {
-    if !args.is_empty() {
-        return None;
+    match found(grammar::show(alloc, word), words) {
+        Ok(found) => match read_show(&found) {
+            Some(command) => Ok(command),
+            None => Err(WordsEnd::Usage),
+        },
+        Err(end) => Err(end),
     }
-    Some(Command::Wire)
 }
 
-fn command<'a>(word: &str, args: &'a [String]) -> Option<Command<'a>>
-    ensures value { option_map value_of result ≡ command_with word.now (map string_bytes args.now) }
-    ensures names { IfSome result HasNames }
+fn play<'a>(alloc: Global, word: &'a str, words: &'a [String]) -> Result<Command<'a>, WordsEnd>
+    requires plain { list_all is_plain (drop 1 (map string_bytes words.now)) ≡ true }
+    ensures value { SaysAs (ok_or (play_of (drop 1 (map string_bytes words.now))) Usage) result }
+    ensures names { IfOk result HasNames }
+{
+    match found(grammar::play(alloc, word), words) {
+        Ok(found) => match read_play(&found) {
+            Some(command) => Ok(command),
+            None => Err(WordsEnd::Usage),
+        },
+        Err(end) => Err(end),
+    }
+}
+
+fn upgrade<'a>(alloc: Global, word: &'a str, words: &'a [String]) -> Result<Command<'a>, WordsEnd>
+    requires plain { list_all is_plain (drop 1 (map string_bytes words.now)) ≡ true }
+    ensures value { SaysAs (ok_or (upgrade_of (drop 1 (map string_bytes words.now))) Usage) result }
+    ensures names { IfOk result HasNames }
+{
+    match found(grammar::upgrade(alloc, word), words) {
+        Ok(found) => match read_upgrade(&found) {
+            Some(command) => Ok(command),
+            None => Err(WordsEnd::Usage),
+        },
+        Err(end) => Err(end),
+    }
+}
+
+fn locks<'a>(alloc: Global, word: &'a str, words: &'a [String]) -> Result<Command<'a>, WordsEnd>
+    requires plain { list_all is_plain (drop 1 (map string_bytes words.now)) ≡ true }
+    ensures value { SaysAs (ok_or (locks_of (drop 1 (map string_bytes words.now))) Usage) result }
+    ensures names { IfOk result HasNames }
+{
+    match found(grammar::alone(alloc, word), words) {
+        Ok(_) => Ok(Command::Locks),
+        Err(end) => Err(end),
+    }
+}
+
+fn wire<'a>(alloc: Global, word: &'a str, words: &'a [String]) -> Result<Command<'a>, WordsEnd>
+    requires plain { list_all is_plain (drop 1 (map string_bytes words.now)) ≡ true }
+    ensures value { SaysAs (ok_or (wire_of (drop 1 (map string_bytes words.now))) Usage) result }
+    ensures names { IfOk result HasNames }
+{
+    match found(grammar::alone(alloc, word), words) {
+        Ok(_) => Ok(Command::Wire),
+        Err(end) => Err(end),
+    }
+}
+
+// The command of this first word: the words are it and the others.
+fn command<'a>(alloc: Global, word: &'a str, words: &'a [String]) -> Result<Command<'a>, WordsEnd>
+    requires plain { list_all is_plain (drop 1 (map string_bytes words.now)) ≡ true }
+    ensures value { SaysAs
+        (ok_or (command_with word.now (drop 1 (map string_bytes words.now))) Usage) result }
+    ensures names { IfOk result HasNames }
 {
     match word {
-        "create" => create(false, args),
-        "create2" => create(true, args),
-        "show" => show(args),
-        "play" => play(args),
-        "upgrade" => upgrade(args),
-        "locks" => locks(args),
-        "wire" => wire(args),
-        _ => None,
+        "create" => create(alloc, false, word, words),
+        "create2" => create(alloc, true, word, words),
+        "show" => show(alloc, word, words),
+        "play" => play(alloc, word, words),
+        "upgrade" => upgrade(alloc, word, words),
+        "locks" => locks(alloc, word, words),
+        "wire" => wire(alloc, word, words),
+        _ => Err(WordsEnd::Usage),
     }
 }
 
 /// The command of the program's words.
-pub fn read_words(words: &[String]) -> Result<Command<'_>, WordsEnd>
-    // It is this command, with the bytes of its names.
-    ensures value { answer_of result ≡ command_of (map string_bytes words.now) }
+pub fn read_words<'a>(alloc: Global, words: &'a [String]) -> Result<Command<'a>, WordsEnd>
+    // Unless memory was wanting, it is this command, with the bytes of its names.
+    ensures value { IsRead (map string_bytes words.now) result }
 
     // Its names are names of arrays, in superblocks too.
     ensures names { IfOk result HasNames }
@@ -131,8 +199,9 @@ pub fn read_words(words: &[String]) -> Result<Command<'_>, WordsEnd>
     let Some((word, args)) = words.split_first() else {
         return Err(WordsEnd::Usage);
     };
-    match command(word.as_str(), args) {
-        Some(command) => Ok(command),
-        None => Err(WordsEnd::Usage),
+    // `clap` would take it for a flag, and answer with its help or its version.
+    if !are_plain(args) {
+        return Err(WordsEnd::Usage);
     }
+    command(alloc, word.as_str(), words)
 }

@@ -38,9 +38,10 @@ fn told(alloc: Global, text: &str) -> Result<String, AllocError> {
     for word in text.split(' ') {
         words.push(String::from_str(alloc, word)?)?;
     }
-    match read_words(&words) {
+    match read_words(alloc, &words) {
         Ok(command) => told_command(alloc, command),
         Err(WordsEnd::Usage) => String::from_str(alloc, "usage,"),
+        Err(WordsEnd::Memory) => String::from_str(alloc, "memory,"),
     }
 }
 
@@ -57,12 +58,22 @@ fn commands(rt: HostRuntime) -> Result<(), Fail> {
         "upgrade a a",
         "show -x",
         "wire x",
+        "create -x 2 16 4 000000000000000000000000000000ff",
+        "play --help",
+        "--version",
+        "help",
+        "play a b",
+        "create demo 2 16 4",
+        "create demo 2 16 4 000000000000000000000000000000ff 20 1",
+        "locks --",
+        "show",
+        "",
     ] {
         all.push_str(told(rt.alloc(), text)?.as_str())?;
     }
     assert_eq!(rt;
         all.as_str(),
-        "create demo,create a_1,show demo,play,play demo,upgrade b,usage,usage,usage,"
+        "create demo,create a_1,show demo,play,play demo,upgrade b,usage,usage,usage,usage,usage,usage,usage,usage,usage,usage,usage,usage,usage,"
     );
     Ok(())
 }

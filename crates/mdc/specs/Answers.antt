@@ -102,12 +102,25 @@ NoCommandAnswers o statuses.WriteFault =
 NoCommandAnswers o status = ⊥
 
 -- what each status says, by the command. The shelf is called for images alone
+abbrev pub CommandAnswers : Result CommandValue WordsEnd → ShelfSeen → Outside → Status → Type 0
+CommandAnswers (Ok (Create name sizes uuid)) h o status = CreateAnswers name sizes uuid h o status
+CommandAnswers (Ok (Show name)) h o status = ShowAnswers name h o status
+CommandAnswers (Ok Play) h o status = PlayAnswers o status × KeepsShelf h
+CommandAnswers (Ok (PlayImages name)) h o status = PlayImagesAnswers name h o status
+CommandAnswers (Ok (Upgrade name to)) h o status = UpgradeAnswers name to h o status
+CommandAnswers (Ok Locks) h o status = LockAnswers o status × KeepsShelf h
+CommandAnswers (Ok Wire) h o status = WireAnswers o status × KeepsShelf h
+CommandAnswers (Err end) h o status = NoCommandAnswers o status × KeepsShelf h
+
+-- memory was wanting before the words were read: nothing was done, and no count of faults rose
+pub record UnreadAnswers (h : ShelfSeen) (o : Outside) (status : Status) : Type 0 where
+  pub is : status ≡ statuses.Memory
+  pub written : o.written_after ≡ o.written
+  pub source : KeepsSource o
+  pub shelf : KeepsShelf h
+  pub source_faults : o.source_faults_after ≡ o.source_faults
+  pub sink_faults : o.sink_faults_after ≡ o.sink_faults
+
+-- what the program answers to the words of this command, or to those of none
 abbrev pub Answers : Result CommandValue WordsEnd → ShelfSeen → Outside → Status → Type 0
-Answers (Ok (Create name sizes uuid)) h o status = CreateAnswers name sizes uuid h o status
-Answers (Ok (Show name)) h o status = ShowAnswers name h o status
-Answers (Ok Play) h o status = PlayAnswers o status × KeepsShelf h
-Answers (Ok (PlayImages name)) h o status = PlayImagesAnswers name h o status
-Answers (Ok (Upgrade name to)) h o status = UpgradeAnswers name to h o status
-Answers (Ok Locks) h o status = LockAnswers o status × KeepsShelf h
-Answers (Ok Wire) h o status = WireAnswers o status × KeepsShelf h
-Answers (Err end) h o status = NoCommandAnswers o status × KeepsShelf h
+Answers command h o status = CommandAnswers command h o status ⊎ UnreadAnswers h o status

@@ -1,7 +1,7 @@
 ghost use Rattle.std.specs.Prelude.{◌≡◌, ◌≤◌, ◌≢◌, map, string_bytes, length, true, Ok};
 ghost use Rattle.script_text.specs.Outside.{TookOfPart};
 ghost use Rattle.command_words.specs.Commands.{command_of, value_of, HasNames};
-ghost use Rattle.mdc.specs.Answers.{Answers};
+ghost use Rattle.mdc.specs.Answers.{Answers, CommandAnswers};
 
 use crate::endings::tell_line;
 use crate::inputs::{images_input, locks_input, play_input, wire_input};
@@ -25,7 +25,7 @@ fn run_command<R: Threads + Sync, H: Shelf, S: Source, K: Sink>(
     sink: &mut K,
 ) -> Status
     requires names { HasNames command }
-    ensures answers { Answers (Ok (value_of command.entry)) (record {
+    ensures answers { CommandAnswers (Ok (value_of command.entry)) (record {
       files = H.contents shelf.old;
       files_after = H.contents shelf.new;
       faults = H.faults shelf.old;
@@ -50,11 +50,11 @@ fn run_command<R: Threads + Sync, H: Shelf, S: Source, K: Sink>(
             geometry,
             uuid,
         } => command_status(create_images(alloc, shelf, sink, geometry, name, uuid)),
-        Command::Show { name } => command_status(show_images(alloc, shelf, sink, name)),
+        Command::Show { name } => command_status(show_images(rt, alloc, shelf, sink, name)),
         Command::Play => play_input(rt, alloc, source, sink),
         Command::PlayImages { name } => images_input(rt, alloc, name, shelf, source, sink),
         Command::Upgrade { name, to } => {
-            command_status(upgrade_images(alloc, shelf, sink, name, to))
+            command_status(upgrade_images(rt, alloc, shelf, sink, name, to))
         }
         Command::Locks => locks_input(alloc, source, sink),
         Command::Wire => wire_input(alloc, source, sink),
@@ -97,8 +97,9 @@ pub fn play<R: Threads + Sync, H: Shelf, S: Source, K: Sink>(
     }) result }
     ensures taken { TookOfPart (S.left source.old) (S.left source.new) }
 {
-    match read_words(words) {
+    match read_words(alloc, words) {
         Ok(command) => run_command(rt, alloc, command, shelf, source, sink),
         Err(WordsEnd::Usage) => tell_line(b"usage\n", Status::Usage, sink),
+        Err(WordsEnd::Memory) => Status::Memory,
     }
 }
